@@ -1,11 +1,11 @@
 -- In a run in which nothing disturbs any transaction all of them are decided, but for one that still runs.
-use Rattle.law_run_alone.proofs.Vocabulary.{◌≡◌, ◌⊎◌, inl, inr, ⊎_elim, ℕ, Bool, true, false, List, [], ◌∷◌, ◌++◌, append_assoc, Option, Some, None, refl, sym, ap, subst, ◌∙◌, ◌&&◌, ◌||◌, not, is_some, cons_option, false≢true, and_parts}
-use Rattle.law_run_alone.proofs.Vocabulary.{none-some, same_Some, Identity, Opening, IsAccepted, Op, Has, has_from, contains_from, has_any, Ending, Refused, Job, Transaction, Doing, Running, RunningSweep, fixed_of, is_idle, Event, Begin}
-use Rattle.law_run_alone.proofs.Vocabulary.{EndedJob, Actor, World, opening, actor_at, step, dones, outcomes, run, done_in, decisions, task_of, task_at, dones-append, outcomes-append, number_of, begins_now, ended, append_has_left}
-use Rattle.law_run_alone.proofs.Vocabulary.{append_has_right, EndStands, ends_as, later_decisions, decisions_go_on, CanBe, all_idle, begins_job, begins_alone, jobs_from, jobs_of, one_at_a_time_from, one_at_a_time, IsDecided, IsRunning}
-use Rattle.law_run_alone.proofs.Vocabulary.{AllAreDecided, UndisturbedEndingsAreOne, all_up, no_locks, disturbs, is_decided, begins_clear, some_runs, all_undisturbed_from, all_undisturbed, not-true, append-nil}
+use Rattle.law_run_alone.proofs.Vocabulary.{◌≡◌, ◌⊎◌, inl, inr, ℕ, Bool, true, false, List, [], ◌∷◌, ◌++◌, append_assoc, Option, Some, None, refl, sym, ap, subst, ◌∙◌, ◌&&◌, ◌||◌, not, is_some, cons_option, false≢true, and_parts, arith, Identity}
+use Rattle.law_run_alone.proofs.Vocabulary.{Opening, IsAccepted, Op, Has, has_from, contains_from, has_any, Ending, Refused, Job, Transaction, Doing, Running, RunningSweep, fixed_of, is_idle, Event, Begin, EndedJob, Actor, World, actor_at, step}
+use Rattle.law_run_alone.proofs.Vocabulary.{dones, outcomes, run, decisions, task_of, task_at, dones-append, outcomes-append, number_of, ended, append_has_left, append_has_right, EndStands, ends_as, later_decisions, decisions_go_on, CanBe, all_idle}
+use Rattle.law_run_alone.proofs.Vocabulary.{begins_job, begins_alone, jobs_from, jobs_of, one_at_a_time_from, one_at_a_time, IsDecided, IsRunning, AllAreDecided, UndisturbedEndingsAreOne, all_up, no_locks, disturbs, is_decided, begins_clear}
+use Rattle.law_run_alone.proofs.Vocabulary.{some_runs, all_undisturbed_from, all_undisturbed, append-nil}
 use Rattle.txn_core.specs.declared.ending.Ending.TheVariants.{Answered}
-use Rattle.law_run_alone.proofs.Turns.{with_job, doing_of, doing_at, all_none}
+use Rattle.law_run_alone.proofs.Turns.{doing_of, doing_at, all_none}
 use Rattle.law_run_alone.proofs.Owns.{IsMine}
 use Rattle.law_run_alone.proofs.Clear.{at_has}
 use Rattle.law_run_alone.proofs.Same.{endings_are_one}
@@ -13,25 +13,16 @@ use Rattle.law_run_alone.proofs.Reached.{can_front, run_more}
 use Rattle.law_run_alone.proofs.Undisturbed.{Reached, reached_first, runs_first, next_reached, ended_decided, runs_still}
 
 two_parts : (a b c : Bool) → (a && b && c) ≡ true → (a ≡ true) × (b ≡ true) × (c ≡ true)
-two_parts true b c is = let both = and_parts b c is in (refl, both.0, both.1)
-two_parts false b c is = absurd (false≢true is)
+two_parts a b c h3 = search arith
 
 -- ---- a decided ending stands among the decisions
 
 decided_then : (given : Opening) (all rest : List Event) (t : ℕ) → IsDecided (decisions given all) t → IsDecided (decisions given (all ++ rest)) t
-decided_then given all rest t is = record {
-  decision = is.decision;
-  there = contains_from (decisions given (all ++ rest)) is.decision (subst (λ ds. Has ds is.decision) (sym (decisions_go_on given all rest))
-      (append_has_left (decisions given all) (later_decisions given all rest) is.decision (has_from (decisions given all) is.decision is.there)));
-  of_it = is.of_it;
-}
+decided_then given all rest t is = grind (contains_from, decisions_go_on, append_has_left, later_decisions, has_from, arith)
 
 -- a job that ends in the last event
 ends_last : (given : Opening) (all : List Event) (event : Event) (job : EndedJob) → (step (fixed_of given) (run given all) event).done.outcome ≡ Some job → Has (ended given (all ++ event ∷ [])) job
-ends_last given all event job is =
-    subst (λ jobs. Has jobs job)
-    (sym (ap outcomes (dones-append (fixed_of given) (opening given) all (event ∷ [])) ∙ outcomes-append (done_in given all) (dones (fixed_of given) (run given all) (event ∷ []))))
-    (append_has_right (ended given all) (outcomes (dones (fixed_of given) (run given all) (event ∷ []))) job (subst (λ outcome. Has (cons_option outcome []) job) (sym is) (inl refl)))
+ends_last given all event job is = search (dones-append, outcomes-append, append_has_right, arith)
 
 decided_last : (given : Opening) → IsAccepted given → (all : List Event) (job : EndedJob) → Has (ended given all) job → is_decided job.ending ≡ true → IsDecided (decisions given all) (number_of job)
 decided_last given accepted all job has well = of job.ending refl well
@@ -55,8 +46,7 @@ runs_it : (world : World) (agent t : ℕ) → IsMine t (doing_at world agent) �
 runs_it world agent t mine runs = of (actor_at world agent) refl mine runs
   where
     busy : (b : Bool) → all_idle world ≡ b → is_idle (doing_at world agent) ≡ false → b ≡ false
-    busy false idle runs = refl
-    busy true idle runs = absurd (false≢true (sym runs ∙ ap is_idle (all_none world.agents idle agent)))
+    busy b h1 h2 = search (false≢true, all_none, arith)
 
     by : (actor : Actor) → actor_at world agent ≡ Some actor → (doing : Option Doing) → actor.agent.doing ≡ doing → IsMine t doing → is_idle doing ≡ false → Runs world agent t
     by actor is None same mine runs = absurd (false≢true (sym runs))
@@ -73,17 +63,14 @@ runs_it world agent t mine runs = of (actor_at world agent) refl mine runs
 
 -- what begins nothing, where not every agent is idle
 none_begins : (begun : Option (ℕ × Job)) (idle : Bool) → idle ≡ false → (not (is_some begun) || idle) ≡ true → begun ≡ None
-none_begins None idle busy alone = refl
-none_begins (Some one) idle busy alone = absurd (false≢true (sym busy ∙ alone))
+none_begins begun idle h2 h3 = search arith
 
 -- what holds where something begins
 where_begun : (begun : Option (ℕ × Job)) (one : ℕ × Job) (b : Bool) → begun ≡ Some one → (not (is_some begun) || b) ≡ true → b ≡ true
-where_begun None one b is clear = absurd (none-some one is)
-where_begun (Some other) one b is clear = clear
+where_begun begun one b h3 h4 = search arith
 
 is_calm : (runs some : Bool) → runs ≡ true → not (runs && some) ≡ true → some ≡ false
-is_calm true some is calm = not-true some calm
-is_calm false some is calm = absurd (false≢true is)
+is_calm runs some h2 h3 = search arith
 
 -- it is decided, or still runs
 abbrev DecidedOrRuns : Opening → List Event → ℕ → Type 0
@@ -146,12 +133,7 @@ record BegunBy (event : Event) (job : Job) : Type 0 where
   is : event ≡ Begin agent job
 
 begun_by : (given : Opening) (world : World) (event : Event) (t : ℕ) (job : Job) → begins_job given world event ≡ Some (t, job) → BegunBy event job
-begun_by given world (Begin i other) t job is = of (begins_now (fixed_of given) i other (actor_at world i)) is
-  where
-    of : (begun : Option ℕ) → with_job other begun ≡ Some (t, job) → BegunBy (Begin i other) job
-    of None is = absurd (none-some (t, job) is)
-    of (Some n) is = record { agent = i; is = ap (λ (pair : ℕ × Job). Begin i pair.1) (same_Some (n, other) (t, job) is) }
-begun_by given world other t job is = absurd (none-some (t, job) is)
+begun_by given world event t job h5 = search arith
 
 module _ (given : Opening) where
   begins_here : (front rest : List Event) (agent t : ℕ) (caller : Identity) (site : ℕ) (ops : List Op) →
@@ -194,20 +176,15 @@ module _ (given : Opening) where
       more = sym (run_more given front event)
 
       here : begins_job given (run given front) event ≡ Some (t, Transaction caller site ops) → DecidedOrRuns given (front ++ event ∷ rest) t
-      here is =
-          let by = begun_by given (run given front) event t (Transaction caller site ops) is in
-          subst (λ event. CanBe given (front ++ event ∷ rest) → one_at_a_time_from given (run given front) (event ∷ rest) ≡ true → all_undisturbed_from given (run given front) (event ∷ rest) ≡ true
-          → begins_job given (run given front) event ≡ Some (t, Transaction caller site ops) → DecidedOrRuns given (front ++ event ∷ rest) t) (sym by.is) (begins_here front rest by.agent t caller site ops) can alone calm is
+      here is = grind (begun_by, begins_here, arith)
 
       of : (begun : Option (ℕ × Job)) → begins_job given (run given front) event ≡ begun → Has (cons_option begun (jobs_from given next rest)) (t, Transaction caller site ops)
           → (Has (jobs_from given next rest) (t, Transaction caller site ops) → DecidedOrRuns given (front ++ event ∷ rest) t)
           → DecidedOrRuns given (front ++ event ∷ rest) t
-      of None is has later = later has
-      of (Some one) is has later = ⊎_elim (λ same. here (is ∙ ap Some same)) later has
+      of begun h1 h2 h3 = search (here, arith)
 
   pub all_are_decided : (events : List Event) → CanBe given events → one_at_a_time given events ≡ true → all_undisturbed given events ≡ true → AllAreDecided given events
   all_are_decided events can alone calm t is = each [] events can alone calm t is.caller is.site is.ops (has_from (jobs_of given events) (t, Transaction is.caller is.site is.ops) is.there)
 
 pub undisturbed_endings_are_one : UndisturbedEndingsAreOne
-undisturbed_endings_are_one given other alike events events' can can' alone alone' same calm calm' =
-    endings_are_one given other alike events events' can can' alone alone' same (all_are_decided given events can alone calm) (all_are_decided other events' can' alone' calm')
+undisturbed_endings_are_one given other alike events events' can can' alone alone' same calm calm' = search (endings_are_one, all_are_decided, arith)

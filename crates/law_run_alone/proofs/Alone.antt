@@ -1,7 +1,7 @@
 -- What holds of every run in which jobs go one at a time.
-use Rattle.law_run_alone.proofs.Vocabulary.{◌≡◌, ◌≢◌, ⊎_elim, ℕ, true, List, [], ◌∷◌, ◌++◌, append_assoc, Option, Some, None, refl, sym, ap, subst, ◌∙◌, map, option_to_list, cons_option, and_parts, Opening, IsAccepted, Job, Doing, Agent}
-use Rattle.law_run_alone.proofs.Vocabulary.{fixed_of, Event, EndedJob, Actor, World, opening, actor_at, step, after, dones, outcomes, run, Decided, decided, decisions, decisions_from, ended, Holds, agent_of, event_holds, cons_is}
-use Rattle.law_run_alone.proofs.Vocabulary.{holds_at_first, fresh_agents, begins_job, begins_alone, jobs_from, jobs_of, one_at_a_time_from, one_at_a_time, decided_ending, decided_endings, append-nil}
+use Rattle.law_run_alone.proofs.Vocabulary.{◌≡◌, ◌≢◌, ℕ, true, List, [], ◌∷◌, ◌++◌, append_assoc, Option, Some, None, refl, sym, ap, subst, ◌∙◌, map, option_to_list, cons_option, and_parts, Opening, IsAccepted, Job, Doing, Agent, arith, fixed_of}
+use Rattle.law_run_alone.proofs.Vocabulary.{Event, EndedJob, Actor, World, opening, actor_at, step, after, dones, outcomes, run, Decided, decided, decisions, decisions_from, ended, Holds, agent_of, event_holds, cons_is, holds_at_first, fresh_agents}
+use Rattle.law_run_alone.proofs.Vocabulary.{begins_job, begins_alone, jobs_from, jobs_of, one_at_a_time_from, one_at_a_time, decided_ending, decided_endings, append-nil}
 use Rattle.std.proofs.lemmas.List.{map-append}
 use Rattle.std.proofs.lemmas.List.Elements.{filter_map-append}
 use Rattle.law_run_alone.proofs.Verdicts.{Asked, asked_of, answer_to, answered, undecided}
@@ -51,18 +51,12 @@ goes_on world new ds past jobs orderly d outcome begun goes = record {
         (along_more (map asked_of ds ++ undecided (doing_at world orderly.turn)) (transactions_of jobs) (transactions_of (option_to_list begun)) orderly.along)
 
     now : Along (map asked_of (ds ++ option_to_list d) ++ undecided (doing_at new goes.next)) all
-    now =
-        ⊎_elim
-        (λ same. subst (λ more. Along (map asked_of (ds ++ option_to_list d) ++ more) all) (sym same) with_more)
-        (λ none. subst (λ more. Along (map asked_of (ds ++ option_to_list d) ++ more) all) (sym none)
-        (subst (λ some. Along some all) (sym (append-nil (map asked_of (ds ++ option_to_list d)))) (along_less (map asked_of (ds ++ option_to_list d)) goes.more all with_more)))
-        goes.still
+    now = search (asked_of, option_to_list, all, with_more, append-nil, along_less, arith)
 
 run_orderly : (given : Opening) (events : List Event) (world : World) (ds : List Decided) (past : List EndedJob) (jobs : List (ℕ × Job)) → Holds (fixed_of given) world ds past
     → Orderly world ds past jobs → one_at_a_time_from given world events ≡ true
     → Orderly (after (fixed_of given) world events) (ds ++ decisions_from (fixed_of given) world events) (past ++ outcomes (dones (fixed_of given) world events)) (jobs ++ jobs_from given world events)
-run_orderly given [] world ds past jobs holds orderly alone =
-    subst (λ ds. Orderly world ds (past ++ []) (jobs ++ [])) (sym (append-nil ds)) (subst (λ past. Orderly world ds past (jobs ++ [])) (sym (append-nil past)) (subst (Orderly world ds past) (sym (append-nil jobs)) orderly))
+run_orderly given [] world ds past jobs holds orderly alone = search (append-nil, arith)
 run_orderly given (event ∷ events) world ds past jobs holds orderly alone =
     let fixed = fixed_of given in
     let next = step fixed world event in

@@ -1,5 +1,5 @@
 -- Transactions that stand along a list of transactions, in its order.
-use Rattle.law_run_alone.proofs.Vocabulary.{◌≡◌, ◌⊎◌, inl, inr, ⊎_elim, ℕ, List, [], ◌∷◌, ◌++◌, refl, sym, ap, ◌∙◌, Has}
+use Rattle.law_run_alone.proofs.Vocabulary.{◌≡◌, ◌⊎◌, inl, inr, ⊎_elim, ℕ, List, [], ◌∷◌, ◌++◌, refl, sym, ap, ◌∙◌, Has, arith}
 use Rattle.law_run_alone.proofs.Verdicts.{Asked}
 
 abbrev pub Along : List Asked → List Asked → Type 0
@@ -27,41 +27,23 @@ along_more [] (first ∷ all) more along = skip more first (all ++ more) (along_
     skip [] first all along = tt
     skip (one ∷ some) first all along = inr along
 along_more (one ∷ some) [] more along = absurd along
-along_more (one ∷ some) (first ∷ all) more along = elim along [
-  | inl here ↦ inl (here.0, along_more some all more here.1)
-  | inr later ↦ inr (along_more (one ∷ some) all more later)
-]
+along_more (one ∷ some) (first ∷ all) more along = search (along_more some all more, along_more (one ∷ some) all more, arith)
 
 -- the last ones may be left out
 pub along_less : (some more all : List Asked) → Along (some ++ more) all → Along some all
 along_less [] more all along = tt
 along_less (one ∷ some) more [] along = absurd along
-along_less (one ∷ some) more (first ∷ all) along = elim along [
-  | inl here ↦ inl (here.0, along_less some more all here.1)
-  | inr later ↦ inr (along_less (one ∷ some) more all later)
-]
+along_less (one ∷ some) more (first ∷ all) along = search (along_less some more all, along_less (one ∷ some) more all, arith)
 
 pub along_has : (some all : List Asked) → Along some all → (one : Asked) → Has some one → Has all one
 along_has [] all along one has = absurd has
 along_has (first ∷ some) [] along one has = absurd along
-along_has (first ∷ some) (other ∷ all) along one has = elim along [
-  | inl here ↦ ⊎_elim (λ is. inl (sym here.0 ∙ is)) (λ rest. inr (along_has some all here.1 one rest)) has
-  | inr later ↦ inr (along_has (first ∷ some) all later one has)
-]
+along_has (first ∷ some) (other ∷ all) along one has = search (along_has some all, along_has (first ∷ some) all, arith)
 
 -- the same number, the same transaction
 pub same_asked : (all : List Asked) → AreApart all → (a b : Asked) → Has all a → Has all b → a.0 ≡ b.0 → a ≡ b
 same_asked [] apart a b has has' same = absurd has
-same_asked (c ∷ all) apart a b has has' same = elim has [
-  | inl is ↦ elim has' [
-    | inl is' ↦ sym is ∙ is'
-    | inr rest' ↦ absurd (apart.0 b rest' (sym same ∙ ap (λ (a : Asked). a.0) (sym is)))
-  ]
-  | inr rest ↦ elim has' [
-    | inl is' ↦ absurd (apart.0 a rest (same ∙ ap (λ (a : Asked). a.0) (sym is')))
-    | inr rest' ↦ same_asked all apart.1 a b rest rest' same
-  ]
-]
+same_asked (c ∷ all) apart a b has has' same = search (same_asked all, arith)
 
 -- what stands along a list and has all of it is the list
 pub is_all : (some all : List Asked) → AreApart all → Along some all → ((one : Asked) → Has all one → Has some one) → some ≡ all

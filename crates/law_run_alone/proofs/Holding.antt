@@ -1,17 +1,14 @@
 -- As long as one transaction alone asks servers and none crashes, the locks that it was told of stand, until it tells how it ended.
-use Rattle.law_run_alone.proofs.Vocabulary.{◌≡◌, inl, inr, ℕ, Bool, true, false, cond, List, [], ◌∷◌, ◌++◌, Option, Some, None, refl, sym, ap, subst, ◌∙◌, slice_get, slice_set, Opening, Request, Stamped, State, reply_of, is_full, answer_of}
-use Rattle.law_run_alone.proofs.Vocabulary.{Job, Response, Replied, Lacked, Ending, Reply, Cache, Suites, suite_of, parts_at, Fixed, Task, home_of, Phase, Gathering, Fetching, Widening, Preparing, Deciding, Finishing, SweepRun, Doing}
-use Rattle.law_run_alone.proofs.Vocabulary.{Running, RunningSweep, After, GoesOn, Ends, tell_end, after_response, request_in, changes_of, decision_of, Agent, fixed_of, next_in, next_of, left, take_in, take, begin, forget, asks_same}
-use Rattle.law_run_alone.proofs.Vocabulary.{asked_as, fetched_as, Event, Begin, Step, Crash, Return, Forget, Actor, server_at, actor_at, serve, answered, becomes, asks_at, asks, steps_once, lacks_for, lacks, operated, operates, step}
-use Rattle.law_run_alone.proofs.Vocabulary.{begins_now, at_puts, puts_in, moves, beginning, decision_by, own_events, Lack as Why}
+use Rattle.law_run_alone.proofs.Vocabulary.{◌≡◌, inl, inr, ℕ, Bool, true, false, cond, List, [], ◌∷◌, ◌++◌, Option, Some, None, refl, sym, ap, subst, ◌∙◌, slice_get, slice_set, Opening, Request, Stamped, State, reply_of, is_full, answer_of, arith}
+use Rattle.law_run_alone.proofs.Vocabulary.{Job, Response, Replied, Lacked, Ending, Reply, Cache, Suites, suite_of, Fixed, Task, Phase, Gathering, Fetching, Widening, Preparing, Deciding, Finishing, Doing, Running, RunningSweep, tell_end}
+use Rattle.law_run_alone.proofs.Vocabulary.{after_response, request_in, Agent, fixed_of, next_in, next_of, left, take_in, take, begin, forget, asks_same, asked_as, fetched_as, Event, Begin, Step, Crash, Return, Forget, Actor, server_at, actor_at}
+use Rattle.law_run_alone.proofs.Vocabulary.{serve, answered, becomes, asks_at, asks, steps_once, lacks_for, lacks, operated, operates, step, begins_now, at_puts, puts_in, moves, beginning, decision_by, own_events, Lack as Why}
 use Rattle.run_core.specs.declared.event.Event.TheVariants.{Lack}
 use Rattle.law_suite_machine.specs.Machine.{World}
 use Rattle.law_suite_machine.specs.Events.{run}
-use Rattle.law_run_machine.specs.Machines.{moved, home_in, response_events, begin_events, answered_events, asked_at_events, asked_events, step_events, lacks_for_events, lack_events, operated_events, operator_events}
+use Rattle.law_run_machine.specs.Machines.{moved, home_in, begin_events, answered_events, asked_at_events, asked_events, step_events, lacks_for_events, lack_events, operated_events, operator_events}
 use Rattle.rep_core.specs.declared.request.Request.TheVariants as request
-use Rattle.rep_core.specs.declared.stamped.Lack.TheVariants as lack
 use Rattle.rep_core.specs.declared.reply.Verdict as replied
-use Rattle.txn_core.specs.Sweeps as sweep
 use Rattle.run_core.specs.Worlds as worlds
 use Rattle.law_suite_machine.specs.Events as machine
 use Rattle.law_run_alone.proofs.Turns.{with_job}
@@ -30,29 +27,19 @@ abbrev pub DoingStands : World → ℕ → Option Doing → Type 0
 DoingStands w t (Some (Running txn_run)) = PhaseStands w t txn_run.phase
 DoingStands w t other = Unit {0}
 
-phase_any : (w : World) (t : ℕ) (phase : Phase) → Stands w t → PhaseStands w t phase
-phase_any w t (Finishing servers v ending) stands = tt
-phase_any w t other stands = stands
-
 pub doing_any : (w : World) (t : ℕ) (doing : Option Doing) → Stands w t → DoingStands w t doing
-doing_any w t (Some (Running txn_run)) stands = phase_any w t txn_run.phase stands
-doing_any w t other stands = tt
+doing_any w t doing h3 = search arith
 
 module _ (w later : World) (t : ℕ) (keeps : Stands w t → Stands later t) where
-  phase_later : (phase : Phase) → PhaseStands w t phase → PhaseStands later t phase
-  phase_later (Finishing servers v ending) stands = tt
-  phase_later other stands = keeps stands
 
   doing_later : (doing : Option Doing) → DoingStands w t doing → DoingStands later t doing
-  doing_later (Some (Running txn_run)) stands = phase_later txn_run.phase stands
-  doing_later other stands = tt
+  doing_later doing h1 = search arith
 
 -- ---- a response
 
 module _ (fixed : Fixed) (agent : Agent) (response : Response) (asked : ℕ × Request) (w later : World) (t : ℕ) (keeps : releases asked.1 ≡ false → Stands w t → Stands later t) where
   told_end : (task : Task) (cache : Cache) (suites : Suites) (v : replied.Verdict) (ending : Ending) (servers : List ℕ) → DoingStands later t (left Running (tell_end task cache suites v ending servers).after)
-  told_end task cache suites v ending [] = tt
-  told_end task cache suites v ending (server ∷ servers) = tt
+  told_end task cache suites v ending servers = search arith
 
   module _ (task : Task) (suites : Suites) where
     abbrev Took : Phase → Type 0
@@ -65,24 +52,14 @@ module _ (fixed : Fixed) (agent : Agent) (response : Response) (asked : ℕ × R
     took_phase (Gathering number) is stands = took_early (Gathering number) (asked_as releases false task number (suite_of suites number) asked.0 asked.1 (λ mode. refl) refl is) stands
     took_phase (Fetching number) is stands = took_early (Fetching number) (fetched_as releases false task number (suite_of suites number) asked.0 asked.1 refl is) stands
     took_phase (Widening (number ∷ left) granted) is stands = took_early (Widening (number ∷ left) granted) (asked_as releases false task number (suite_of suites number) asked.0 asked.1 (λ mode. refl) refl is) stands
-    took_phase (Preparing (now ∷ left) outcome) is stands =
-        took_early (Preparing (now ∷ left) outcome) (ap releases (sym (asks_same now asked.0 (request.Prepare task.t (parts_at suites (changes_of outcome) now)) asked.1 is))) stands
-    took_phase (Deciding outcome) is stands =
-        took_early (Deciding outcome) (ap releases (sym (asks_same (home_of fixed.service task.t) asked.0 (request.Decide task.t (decision_of task outcome)) asked.1 is))) stands
-    took_phase (Finishing (now ∷ rest) v ending) is stands = of response
-      where
-        of : (response : Response) → DoingStands later t (left Running (after_response fixed (record { task = task; suites = suites; phase = Finishing (now ∷ rest) v ending }) agent.cache asked.0 asked.1 response).after)
-        of (Replied said) = told_end task agent.cache suites v ending rest
-        of (Lacked lacked) = told_end task agent.cache suites v ending rest
+    took_phase (Preparing (now ∷ left) outcome) is stands = search (took_early, releases, asks_same, arith)
+    took_phase (Deciding outcome) is stands = search (took_early, releases, asks_same, arith)
+    took_phase (Finishing (now ∷ rest) v ending) is stands = search (told_end, arith)
     took_phase other is stands = cc
 
   pub took_stands : (doing : Option Doing) → agent.doing ≡ doing → next_in fixed doing ≡ Some asked → DoingStands w t doing → DoingStands later t (take_in fixed agent response doing (Some asked)).agent.doing
   took_stands (Some (Running txn_run)) was is stands = took_phase txn_run.task txn_run.suites txn_run.phase is stands
-  took_stands (Some (RunningSweep sweep_run)) was is stands = rounds (sweep.after_response fixed.service sweep_run asked.0 response)
-    where
-      rounds : (after : After SweepRun) → DoingStands later t (left RunningSweep after)
-      rounds (GoesOn sweep_run) = tt
-      rounds (Ends ending) = tt
+  took_stands (Some (RunningSweep sweep_run)) was is stands = search arith
   took_stands None was is stands = cc
 
 -- ---- a world
@@ -146,8 +123,7 @@ module _ (given : Opening) (up : ℕ → Bool) (t turn : ℕ) (world : worlds.Wo
       elim (is_full st stamped) as (λ b. AtStands (after (operated_events given z w (cond b None (Some (record { server = server; request = stamped; reply = answer_of st stamped })))))
       (operated world st (cond b None (Some (record { server = server; request = stamped; reply = answer_of st stamped })))).world t turn) [
         | true ↦ λ found there. stands found there
-        | false ↦ λ found there. spared (moves z (home_in given) (decision_by z w None) server w asked (reply_of st asked))
-            (spare_moves z (home_in given) (decision_by z w None) tt server w asked (reply_of st asked) none) found.agent.doing (stands found there)
+        | false ↦ λ found there. search (spared, spare_moves, arith)
       ]
     where
       stamped : Stamped Request
@@ -159,8 +135,7 @@ module _ (given : Opening) (up : ℕ → Bool) (t turn : ℕ) (world : worlds.Wo
   served_stands i actor asked st is next turns =
       elim (is_full st stamped) as (λ b. AtStands (after (answered_events given z w actor (cond b None (Some (record { server = asked.0; request = stamped; reply = answer_of st stamped })))))
       (answered fixed world i actor st (cond b None (Some (record { server = asked.0; request = stamped; reply = answer_of st stamped })))).world t turn) [
-        | true ↦ λ found. took_at (response_events given z actor (Lacked lack.Full)) i actor asked (Lacked lack.Full) actor.stamp is next
-            (λ _. spare_own z actor.agent.doing (take fixed actor.agent (Lacked lack.Full))) (λ apart. absurd (apart turns)) found
+        | true ↦ λ found. search (took_at, spare_own, arith)
         | false ↦ λ found. took_at (first ++ own) i actor asked (Replied said) (answer_of st stamped).stamp is next
             (λ none. all_spare-append first own (spare_moves z (home_in given) (decision_by z w actor.agent.doing)
             (spare_decision z w actor.agent.doing) asked.0 w asked.1 said none) (spare_own z actor.agent.doing (take fixed actor.agent (Replied said))))
@@ -196,8 +171,7 @@ module _ (given : Opening) (up : ℕ → Bool) (t turn : ℕ) (world : worlds.Wo
   lacks_stands : (i : ℕ) (why : Why) (actor : Actor) → actor_at world i ≡ Some actor → (asked : Option (ℕ × Request)) → next_of fixed actor.agent ≡ asked
       → AtStands (after (lacks_for_events given z actor (Lacked why) asked)) (lacks_for fixed world i actor (Lacked why) asked).world t turn
   lacks_stands i why actor is None next = λ found there. stands found there
-  lacks_stands i why actor is (Some asked) next = λ found. took_at (response_events given z actor (Lacked why)) i actor asked (Lacked why) actor.stamp is next
-      (λ _. spare_own z actor.agent.doing (take fixed actor.agent (Lacked why))) (λ _. spare_own z actor.agent.doing (take fixed actor.agent (Lacked why))) found
+  lacks_stands i why actor is (Some asked) next = search (took_at, spare_own, arith)
 
   lack_stands : (i : ℕ) (why : Why) (found : Option Actor) → actor_at world i ≡ found → AtStands (after (lack_events given z (Lacked why) found)) (lacks fixed world i (Lacked why) found).world t turn
   lack_stands i why None is = λ found there. stands found there

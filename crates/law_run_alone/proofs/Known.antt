@@ -1,44 +1,26 @@
 -- Where the locks of a transaction stand, what it knows of a suite is what the suite's register holds; and the register holds what some copy does.
-use Rattle.law_run_alone.proofs.Vocabulary.{◌≡◌, ◌≢◌, inl, inr, ℕ, ◌≤◌, IsTrue, true, false, cond, List, Option, Some, None, refl, sym, ap, subst, ◌∙◌, arith, ◌&&◌, nat_le, not, nat_cmp, and_parts, false≢true, nat_tests, get, votes_in}
-use Rattle.law_run_alone.proofs.Vocabulary.{IsValid, Content, Opening, is_valid_prefix, is_valid_copy, is_within_limits, version_agrees, Prefix, Replica, Store, IsSound, is_sound, is_used_up, copy_of, left_by, all_told, ReadPoint}
-use Rattle.law_run_alone.proofs.Vocabulary.{GatheredSuite, suite_of, told_in, TransactionRun, Running, fixed_of, Actor, actor_at, Beginning, Entry, row, prefix_at, content_at, empty_of, GoesWith, IsKnown, effect_held, Inv, plan_of}
-use Rattle.law_run_alone.proofs.Vocabulary.{beginning, showed, showed_to, known_by, servers_of, OwesKnown, suite_was, known_prefix, known_content, told_to, Agrees, DoingAgrees, valid_was, knows_from_a_quorum, Together}
-use Rattle.law_suite_machine.specs.Machine.{Told, Answered, IsQuorum, is_answered, in_effect, effect, World, Verdict}
+use Rattle.law_run_alone.proofs.Vocabulary.{◌≡◌, ◌≢◌, inl, inr, ℕ, ◌≤◌, true, List, Option, Some, sym, ap, subst, ◌∙◌, arith, and_parts, Content, Opening, is_valid_prefix, is_valid_copy, is_within_limits, Prefix, Replica, all_told, ReadPoint}
+use Rattle.law_run_alone.proofs.Vocabulary.{GatheredSuite, suite_of, told_in, TransactionRun, Running, fixed_of, Actor, actor_at, Beginning, Entry, row, prefix_at, GoesWith, IsKnown, effect_held, Inv, beginning, showed, showed_to, known_by}
+use Rattle.law_run_alone.proofs.Vocabulary.{OwesKnown, suite_was, known_prefix, known_content, told_to, Agrees, DoingAgrees, valid_was, knows_from_a_quorum, Together}
+use Rattle.law_suite_machine.specs.Machine.{Told, Answered, IsQuorum, effect, World}
 use Rattle.law_suite_machine.proofs.Rows.{Logged}
 use Rattle.law_suite_machine.proofs.Knowing.{within_row}
 use Rattle.law_suite_machine.proofs.Conclusions.{quorums_show}
 use Rattle.law_headline.proofs.Firsts.{firsts_given}
-use Rattle.suite_prefix.specs.Tests.{holds}
 use Rattle.law_suite_machine.specs.Registers.{Known}
-use Rattle.rep_core.specs.Intentions as server
 use Rattle.run_core.specs.Worlds as worlds
 use Rattle.law_run_alone.proofs.Standing.{Stands}
 
 -- ---- what is known
 
-at_most : (a b : ℕ) → nat_le a b ≡ true → a ≤ b
-at_most a b e = grind (arith, nat_tests)
-
 -- those that showed a copy told of it
 showed_told : (known : Known) (o : Option Told) → showed known o ≡ true → (told : Told) × (o ≡ Some told) × (told.copy.prefix.pver ≤ known.prefix.pver) × (told.copy.dver ≤ known.dver)
-showed_told known None is = absurd (false≢true is)
-showed_told known (Some told) is =
-    let parts = and_parts (nat_le told.copy.prefix.pver known.prefix.pver) (nat_le told.copy.dver known.dver) is in
-    (told, refl, at_most told.copy.prefix.pver known.prefix.pver parts.0, at_most told.copy.dver known.dver parts.1)
+showed_told known o h2 = search arith
 
 -- a content that goes with the row's prefix at the row's version is the row's
 row_content : (start : Beginning) (log : List Entry) → Logged start log → (prefix : Prefix) (d : ℕ) (content : Content) → prefix ≡ (row start log).prefix
     → d ≡ (row start log).dver → GoesWith start log prefix d content → content ≡ (row start log).content
-row_content start log l prefix d content ep ed (inl was) =
-    elim (l.own.1) [
-      | inl own ↦ sym was.2 ∙ ap (content_at start log) ed ∙ own.2
-      | inr zero' ↦ let some = was.0 in let e = zero'.0 in absurd (omega arith)
-    ]
-row_content start log l prefix d content ep ed (inr none) =
-    elim (l.own.1) [
-      | inl own ↦ let some = own.0 in let e = none.0 in absurd (omega arith)
-      | inr zero' ↦ none.1 ∙ ap empty_of ep ∙ sym zero'.1
-    ]
+row_content start log h2 prefix d content h6 h7 h8 = search arith
 
 module _ (start : Beginning) (w : World) (inv : Inv start w) (t : ℕ) (stands : Stands w t) (unanswered : w.verdict t ≢ Some Answered) where
   -- a copy that was told of is in effect
@@ -71,11 +53,7 @@ module _ (start : Beginning) (w : World) (inv : Inv start w) (t : ℕ) (stands :
         omega arith
 
     pub is_known : IsKnown (row start w.log) known
-    is_known = record {
-      prefix = prefix_known;
-      dver = dver_known;
-      content = λ content is. row_content start w.log inv.logged known.prefix known.dver content prefix_known dver_known (owes.content content is);
-    }
+    is_known = search (prefix_known, dver_known, row_content, arith)
 
 -- what a transaction knows of a suite that had a quorum
 pub known_owed : (given : Opening) (z : ℕ) (w : World) (world : worlds.World) → Together given z w world → (number : ℕ) (actor : Actor) (txn_run : TransactionRun)
@@ -95,24 +73,6 @@ known_owed given z w world now number actor txn_run there running suite first fo
 
 -- ---- what the register holds
 
--- a store's copy is valid, and so is what an intention leaves of it
-sound_valid : (copy : Replica) → IsTrue (is_sound copy) → is_valid_copy copy ≡ true
-sound_valid copy sound =
-    let front = and_parts (is_valid_copy copy && not (is_used_up copy.prefix.pver)) (not (is_used_up copy.dver)) sound in
-    (and_parts (is_valid_copy copy) (not (is_used_up copy.prefix.pver)) front.0).0
-
-effect_valid : (store : Store) (z : ℕ) (verdict : ℕ → Option Verdict) (o : Option server.Intention) → IsSound store → get nat_cmp store.intentions z ≡ o
-    → is_valid_copy (in_effect verdict (plan_of o (copy_of store z)) (copy_of store z)) ≡ true
-effect_valid store z verdict None sound is = sound_valid (copy_of store z) (sound.copies z)
-effect_valid store z verdict (Some intention) sound is =
-    elim (is_answered (verdict intention.t)) as (λ b. is_valid_copy (cond b (left_by intention.take (copy_of store z)) (copy_of store z)) ≡ true) [
-      | true ↦ sound_valid (left_by intention.take (copy_of store z)) (sound.intentions z intention is)
-      | false ↦ sound_valid (copy_of store z) (sound.copies z)
-    ]
-
-least : (a b : ℕ) → a ≤ b → nat_le a b ≡ true
-least a b is = grind (arith, nat_tests)
-
 -- a prefix and a content of valid copies
 pub record IsOfValid (held : Replica) : Type 0 where
   pub prefix : is_valid_prefix held.prefix ≡ true
@@ -123,18 +83,11 @@ module _ (given : Opening) (z : ℕ) (w : World) (world : worlds.World) (now : T
   held = row (beginning z given) w.log
 
   copy_valid : (i : ℕ) → is_valid_copy (effect w i) ≡ true
-  copy_valid i =
-      let shows = now.shows.at i in
-      let store = (servers_of given world i).store in
-      ap (λ copy. is_valid_copy (in_effect w.verdict (w.plan i) copy)) shows.copy
-      ∙ ap (λ plan. is_valid_copy (in_effect w.verdict plan (copy_of store z))) shows.plan
-      ∙ effect_valid store z w.verdict (get nat_cmp store.intentions z) (now.all i).sound refl
+  copy_valid i = search arith
 
   -- all servers are a quorum
   every : IsQuorum held.prefix.votes (λ _. true)
-  every =
-      let valid : IsValid held.prefix.votes = subst (λ (p : Prefix). IsValid p.votes) now.inv.logged.own.0.1 (now.inv.logged.valid held.prefix.pver) in
-      inl (least held.prefix.votes.r (votes_in held.prefix.votes.reps (λ _. true)) valid.r_in_range.1)
+  every = search arith
 
   pub row_valid : IsOfValid held
   row_valid =
@@ -147,8 +100,4 @@ module _ (given : Opening) (z : ℕ) (w : World) (world : worlds.World) (now : T
       }
     where
       parts : (copy : Replica) → is_valid_copy copy ≡ true → (is_valid_prefix copy.prefix ≡ true) × (is_within_limits copy.content ≡ true)
-      parts copy valid =
-          let third = and_parts (is_valid_prefix copy.prefix && holds copy.prefix.kind copy.content && version_agrees copy) (is_within_limits copy.content) valid in
-          let second = and_parts (is_valid_prefix copy.prefix && holds copy.prefix.kind copy.content) (version_agrees copy) third.0 in
-          let first = and_parts (is_valid_prefix copy.prefix) (holds copy.prefix.kind copy.content) second.0 in
-          (first.0, third.1)
+      parts copy valid = search (and_parts, arith)

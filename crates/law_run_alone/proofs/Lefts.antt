@@ -1,9 +1,8 @@
 -- A transaction prepares at servers that told it of a lock alone.
-use Rattle.law_run_alone.proofs.Vocabulary.{◌≡◌, inr, ℕ, true, false, cond, List, [], ◌∷◌, Option, Some, None, refl, sym, subst, ◌*◌, ◌+◌, ◌&&◌, nat_lt, false≢true, max_servers, is_prepared, Request, Verdict, Has, has_filter, Cache, Suites}
-use Rattle.law_run_alone.proofs.Vocabulary.{has_locks, Response, Replied, Lacked, Job, Transaction, Sweep, Cause, Ending, Undecided, Fixed, Task, Proposal, Phase, Gathering, Fetching, Widening, Preparing, Deciding, Finishing}
-use Rattle.law_run_alone.proofs.Vocabulary.{TransactionRun, SweepRun, Doing, Running, RunningSweep, After, GoesOn, Ends, execute, tell_end, give_up, prepare, locked_at, numbers_from, lack_cause, after_response, verdict_in, ending_by}
-use Rattle.law_run_alone.proofs.Vocabulary.{cause_of_abort, Agent, Take, next_of, take_in, take, begin, started, forget, is_idle, has_sense, max_jobs, left, after_all}
-use Rattle.txn_core.specs.declared.ending.Cause.TheVariants.{Lost}
+use Rattle.law_run_alone.proofs.Vocabulary.{◌≡◌, ℕ, true, false, cond, List, [], ◌∷◌, Option, Some, None, refl, sym, subst, ◌*◌, ◌+◌, ◌&&◌, nat_lt, false≢true, max_servers, Request, Verdict, Has, has_filter, Cache, Suites, arith, has_locks, Response}
+use Rattle.law_run_alone.proofs.Vocabulary.{Replied, Lacked, Job, Transaction, Sweep, Cause, Ending, Undecided, Fixed, Task, Proposal, Phase, Gathering, Fetching, Widening, Preparing, Deciding, Finishing, TransactionRun, SweepRun, Doing, Running}
+use Rattle.law_run_alone.proofs.Vocabulary.{RunningSweep, After, GoesOn, Ends, execute, tell_end, give_up, prepare, locked_at, numbers_from, lack_cause, after_response, verdict_in, ending_by, cause_of_abort, Agent, Take, next_of, take_in, take}
+use Rattle.law_run_alone.proofs.Vocabulary.{begin, started, forget, is_idle, has_sense, max_jobs, left, after_all}
 use Rattle.txn_core.proofs.Walk.{IsEarly, goes_response, goes_execute}
 use Rattle.txn_core.specs.Agents.{Event, Forget}
 use Rattle.rep_core.specs.declared.reply.Verdict.TheVariants as verdict
@@ -24,24 +23,19 @@ HoldsIn other = Unit {0}
 
 module _ (task : Task) where
   holds_end : (cache : Cache) (suites : Suites) (v : Verdict) (ending : Ending) (servers : List ℕ) → HoldsAfter (tell_end task cache suites v ending servers).after
-  holds_end cache suites v ending [] = tt
-  holds_end cache suites v ending (server ∷ servers) = tt
+  holds_end cache suites v ending servers = search arith
 
   holds_given_up : (cache : Cache) (suites : Suites) (cause : Cause) → HoldsAfter (give_up task cache suites cause).after
   holds_given_up cache suites cause = holds_end cache suites verdict.Aborted (Undecided cause) (locked_at suites)
 
   holds_prepare : (cache : Cache) (suites : Suites) (outcome : Proposal) (servers : List ℕ) → ((server : ℕ) → Has servers server → has_locks suites server ≡ true) → HoldsAfter (prepare task cache suites outcome servers).after
-  holds_prepare cache suites outcome [] all = tt
-  holds_prepare cache suites outcome (server ∷ servers) all = all
+  holds_prepare cache suites outcome servers h4 = search arith
 
   holds_prepares : (cache : Cache) (suites : Suites) (outcome : Proposal) → HoldsAfter (prepare task cache suites outcome (locked_at suites)).after
   holds_prepares cache suites outcome = holds_prepare cache suites outcome (locked_at suites) (λ server has. (has_filter (has_locks suites) (numbers_from 0 max_servers) server has).1)
 
   holds_early : (suites : Suites) (phase : Phase) → IsEarly phase → HoldsAfter (GoesOn (record { task = task; suites = suites; phase = phase }))
-  holds_early suites (Preparing servers outcome) is = absurd is
-  holds_early suites (Deciding outcome) is = absurd is
-  holds_early suites (Finishing servers v ending) is = absurd is
-  holds_early suites other is = tt
+  holds_early suites phase h2 = search arith
 
   module _ (fixed : Fixed) (cache : Cache) (suites : Suites) (server : ℕ) (asked : Request) (response : Response) where
     abbrev After' : Phase → Type 0
@@ -54,49 +48,26 @@ module _ (task : Task) where
     holds_response (Gathering number) holds = holds_early_response (Gathering number) tt
     holds_response (Fetching number) holds = holds_early_response (Fetching number) tt
     holds_response (Widening numbers granted) holds = holds_early_response (Widening numbers granted) tt
-    holds_response (Preparing [] outcome) holds = of response
-      where
-        of : (response : Response) → HoldsAfter (after_response fixed (record { task = task; suites = suites; phase = Preparing [] outcome }) cache server asked response).after
-        of (Replied said) = holds_given_up cache suites (Lost server)
-        of (Lacked lacked) = holds_given_up cache suites (lack_cause server lacked)
-    holds_response (Preparing (now ∷ servers) outcome) holds = of response
-      where
-        of : (response : Response) → HoldsAfter (after_response fixed (record { task = task; suites = suites; phase = Preparing (now ∷ servers) outcome }) cache server asked response).after
-        of (Replied said) =
-            elim (is_prepared said) as (λ b. HoldsAfter (cond b (prepare task cache suites outcome servers) (give_up task cache suites (Lost server))).after) [
-              | true ↦ holds_prepare cache suites outcome servers (λ server has. holds server (inr has))
-              | false ↦ holds_given_up cache suites (Lost server)
-            ]
-        of (Lacked lacked) = holds_given_up cache suites (lack_cause server lacked)
+    holds_response (Preparing [] outcome) holds = search (holds_given_up, arith)
+    holds_response (Preparing (now ∷ servers) outcome) holds = search (holds_prepare, holds_given_up, arith)
     holds_response (Deciding outcome) holds = of response
       where
         of : (response : Response) → HoldsAfter (after_response fixed (record { task = task; suites = suites; phase = Deciding outcome }) cache server asked response).after
         of (Replied said) = holds_end cache suites (verdict_in said verdict.Aborted) (ending_by (verdict_in said verdict.Aborted) (cause_of_abort said)) (locked_at suites)
         of (Lacked lacked) = holds_given_up cache suites (lack_cause server lacked)
-    holds_response (Finishing [] v ending) holds = of response
-      where
-        of : (response : Response) → HoldsAfter (after_response fixed (record { task = task; suites = suites; phase = Finishing [] v ending }) cache server asked response).after
-        of (Replied said) = tt
-        of (Lacked lacked) = tt
-    holds_response (Finishing (now ∷ servers) v ending) holds = of response
-      where
-        of : (response : Response) → HoldsAfter (after_response fixed (record { task = task; suites = suites; phase = Finishing (now ∷ servers) v ending }) cache server asked response).after
-        of (Replied said) = holds_end cache suites v ending servers
-        of (Lacked lacked) = holds_end cache suites v ending servers
+    holds_response (Finishing [] v ending) holds = search arith
+    holds_response (Finishing (now ∷ servers) v ending) holds = search (holds_end, arith)
 
 -- ---- an agent
 
 holds_left : (after : After TransactionRun) → HoldsAfter after → HoldsIn (left Running after)
-holds_left (GoesOn txn_run) holds = holds
-holds_left (Ends ending) holds = tt
+holds_left after h1 = search arith
 
 holds_round : (after : After SweepRun) → HoldsIn (left RunningSweep after)
-holds_round (GoesOn sweep_run) = tt
-holds_round (Ends ending) = tt
+holds_round after = search arith
 
 take_holds : (fixed : Fixed) (agent : Agent) (response : Response) (doing : Option Doing) (asked : Option (ℕ × Request)) → agent.doing ≡ doing → HoldsIn doing → HoldsIn (take_in fixed agent response doing asked).agent.doing
-take_holds fixed agent response (Some (Running txn_run)) (Some asked) was holds =
-    holds_left (after_response fixed txn_run agent.cache asked.0 asked.1 response).after (holds_response txn_run.task fixed agent.cache txn_run.suites asked.0 asked.1 response txn_run.phase holds)
+take_holds fixed agent response (Some (Running txn_run)) (Some asked) was holds = search (holds_response txn_run.task fixed agent.cache txn_run.suites asked.0 asked.1 response txn_run.phase holds, holds_left, arith)
 take_holds fixed agent response (Some (RunningSweep sweep_run)) (Some asked) was holds = holds_round (sweep.after_response fixed.service sweep_run asked.0 response)
 take_holds fixed agent response (Some (RunningSweep sweep_run)) None was holds = subst HoldsIn (sym was) holds
 take_holds fixed agent response None (Some asked) was holds = subst HoldsIn (sym was) holds
@@ -115,8 +86,7 @@ begun_holds fixed agent job idle =
     ]
   where
     none : (doing : Option Doing) → is_idle doing ≡ true → HoldsIn doing
-    none None is = tt
-    none (Some doing) is = absurd (false≢true is)
+    none doing h1 = search (false≢true, arith)
 
     begins : (job : Job) → HoldsIn (started fixed agent job).doing
     begins (Transaction caller site ops) =

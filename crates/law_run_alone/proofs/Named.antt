@@ -1,14 +1,11 @@
 -- What servers and sweeps name was begun: no server has a lock or a record of a transaction that is still to begin.
-use Rattle.law_run_alone.proofs.Vocabulary.{◌≡◌, inl, inr, ⊎_elim, ℕ, zero, suc, ◌+◌, ◌≤◌, Bool, true, false, cond, List, [], ◌∷◌, Option, Some, None, refl, sym, ap, subst, ◌∙◌, arith, ◌*◌, ◌==◌, ◌&&◌, ◌||◌, not, nat_lt, map, filter}
-use Rattle.law_run_alone.proofs.Vocabulary.{slice_get, slice_set, eqb-true, nat_tests, none-some, same_Some, Opening, IsAccepted, LockMode, Exclusive, Replica, Lock, Request, Reply, Verdict, Stamped, in_the_way, has_lock, locked, raised}
-use Rattle.law_run_alone.proofs.Vocabulary.{raised_lock, with_lock, before, prepared_lock, is_own, has_prepared, copy_of, State, record_of, reply_of, reply_up, reply_down, locking_reply, stands_prepared, can_prepare, verdict_of, audit_of}
-use Rattle.law_run_alone.proofs.Vocabulary.{is_full, served, answer_of, Has, has_filter, has_between, has_map, any_has, record_apart, Ways, recording, by_step, Service, Job, Transaction, Sweep, Response, Replied, Lacked, home_of, Fixed}
-use Rattle.law_run_alone.proofs.Vocabulary.{TransactionRun, SweepRun, Sweeping, Listing, Resolving, Telling, Breaking, Doing, Running, RunningSweep, After, GoesOn, Ends, after_response, execute, Agent, fixed_of, is_idle, has_sense}
-use Rattle.law_run_alone.proofs.Vocabulary.{max_jobs, next_in, next_of, left, take_in, take, begin, started, forget, asks_same, Event, Begin, Step, Crash, Return, Forget, Actor, World, opening, servers_from, server_at, actor_at, with_actor}
-use Rattle.law_run_alone.proofs.Vocabulary.{serve, moved, answered, becomes, asks_at, asks, steps_once, lacks_for, lacks, operated, operates, step, after, run, Decided, decisions, EndedJob, names, ended, begins_now, asks_in_its_name}
-use Rattle.law_run_alone.proofs.Vocabulary.{same_place, IsAt, Begun, at_puts, same_or, agent_of, agent_at, Holds, event_holds, puts_in, holds_at_first, holds_of, fresh_agents, begins_job, Lack as Why}
+use Rattle.law_run_alone.proofs.Vocabulary.{◌≡◌, inl, inr, ⊎_elim, ℕ, zero, suc, ◌+◌, ◌≤◌, Bool, true, false, cond, List, [], ◌∷◌, Option, Some, None, refl, sym, ap, subst, ◌∙◌, arith, ◌*◌, ◌==◌, ◌&&◌, not, nat_lt, map, filter, slice_get, slice_set}
+use Rattle.law_run_alone.proofs.Vocabulary.{nat_tests, none-some, same_Some, Opening, IsAccepted, LockMode, Exclusive, Lock, Request, Reply, Verdict, Stamped, has_lock, locked, with_lock, before, prepared_lock, is_own, State, record_of, reply_of}
+use Rattle.law_run_alone.proofs.Vocabulary.{verdict_of, audit_of, is_full, served, answer_of, Has, has_filter, has_between, has_map, any_has, record_apart, Ways, recording, by_step, Service, Job, Response, Replied, Lacked, Fixed, TransactionRun}
+use Rattle.law_run_alone.proofs.Vocabulary.{SweepRun, Sweeping, Listing, Resolving, Telling, Breaking, Doing, Running, RunningSweep, After, after_response, Agent, fixed_of, is_idle, has_sense, max_jobs, next_in, next_of, left, take_in, take, begin}
+use Rattle.law_run_alone.proofs.Vocabulary.{Event, Begin, Actor, World, opening, servers_from, server_at, actor_at, with_actor, serve, moved, answered, becomes, asks_at, asks, steps_once, lacks_for, lacks, operates, step, after, run, Decided}
+use Rattle.law_run_alone.proofs.Vocabulary.{decisions, EndedJob, ended, begins_now, same_place, IsAt, Begun, at_puts, same_or, agent_of, agent_at, Holds, event_holds, puts_in, holds_at_first, holds_of, fresh_agents, begins_job, Lack as Why}
 use Rattle.file_ops.specs.declared.audit.AuditItem.{AuditItem}
-use Rattle.run_core.specs.declared.event.Event.TheVariants.{Lack}
 use Rattle.law_runs.proofs.Begun.{counts_rise}
 use Rattle.rep_core.specs.declared.request.Request.TheVariants as request
 use Rattle.rep_core.specs.declared.reply.Reply.TheVariants as reply
@@ -46,23 +43,14 @@ module _ (B : ℕ → Type 0) where
   map_of f locks same all lock has = let was = has_map f locks lock has in subst B (sym (same was.0) ∙ ap (λ (lock : Lock). lock.t) was.2) (all was.0 was.1)
 
   with_of : (lock : Lock) (locks : List Lock) → B lock.t → LocksOf B locks → LocksOf B (with_lock lock locks)
-  with_of lock locks own all other has =
-      ⊎_elim (λ old. all other old) (λ same. subst (λ (lock : Lock). B lock.t) same own) (has_between (λ other. before other lock) locks lock other has)
+  with_of lock locks own all other has = search (has_between (λ other. before other lock) locks lock other has, arith)
 
   locked_of : (t suite : ℕ) (mode : LockMode) (locks : List Lock) → B t → LocksOf B locks → LocksOf B (locked t suite mode locks)
-  locked_of t suite mode locks own all =
-      let new : Lock = record { t = t; suite = suite; mode = mode; prepared = false } in
-      elim (has_lock t suite locks) as (λ b. LocksOf B (cond b (raised t suite mode locks) (with_lock new locks))) [
-        | true ↦ map_of (raised_lock t suite mode) locks (λ lock. refl) all
-        | false ↦ with_of new locks own all
-      ]
+  locked_of t suite mode locks own all = search (map_of, with_of, arith)
 
   -- whose lock is there
   had_of : (t suite : ℕ) (locks : List Lock) → LocksOf B locks → has_lock t suite locks ≡ true → B t
-  had_of t suite locks all has = let is = any_has (is_own t suite) locks has in subst B (equal is.0 is.2) (all is.0 is.1)
-    where
-      equal : (lock : Lock) → is_own t suite lock ≡ true → lock.t ≡ t
-      equal lock is = grind (arith, nat_tests)
+  had_of t suite locks all has = search (any_has, nat_tests, arith)
 
   recorded_of : (st : State) (t : ℕ) (new : Verdict) (item : Option AuditItem) → B t → NamesOnly B st → (u : ℕ) (v : Verdict) → record_of (recording t new item st) u ≡ Some v → B u
   recorded_of st t new item own all u v is =
@@ -98,31 +86,8 @@ module _ (B : ℕ → Type 0) where
   TellsOf (Replied (reply.Locked locks)) = LocksOf B locks
   TellsOf other = Unit {0}
 
-  locking_tells : (other : Option Lock) (copy : Replica) → TellsOf (Replied (locking_reply other copy))
-  locking_tells None copy = tt
-  locking_tells (Some other) copy = tt
-
-  up_tells : (st : State) → LocksOf B st.locks → (asked : Request) → TellsOf (Replied (reply_up st asked))
-  up_tells st all (request.Poll t suite mode) = locking_tells (in_the_way t suite mode st.locks) (copy_of st.store suite)
-  up_tells st all (request.Upgrade t suite) =
-      elim (has_lock t suite st.locks) as (λ b. TellsOf (Replied (cond b (locking_reply (in_the_way t suite Exclusive st.locks) (copy_of st.store suite)) reply.Lost))) [
-        | true ↦ locking_tells (in_the_way t suite Exclusive st.locks) (copy_of st.store suite)
-        | false ↦ tt
-      ]
-  up_tells st all (request.Fetch t suite) = elim (has_lock t suite st.locks) as (λ b. TellsOf (Replied (cond b (reply.Given (copy_of st.store suite).dver (copy_of st.store suite).content) reply.Lost))) [ true ↦ tt | false ↦ tt ]
-  up_tells st all (request.Prepare t parts) = elim (stands_prepared st t parts || can_prepare st t parts) as (λ b. TellsOf (Replied (cond b reply.Prepared reply.Lost))) [ true ↦ tt | false ↦ tt ]
-  up_tells st all request.Locks = all
-  up_tells st all other = tt
-
-  down_tells : (asked : Request) → TellsOf (Replied (reply_down asked))
-  down_tells (request.Poll t suite mode) = tt
-  down_tells other = tt
-
   tells_of : (st : State) (asked : Request) → LocksOf B st.locks → TellsOf (Replied (reply_of st asked))
-  tells_of st asked all = elim (st.up) as (λ b. TellsOf (Replied (cond b (reply_up st asked) (reply_down asked)))) [
-    | true ↦ up_tells st all asked
-    | false ↦ down_tells asked
-  ]
+  tells_of st asked all = search arith
 
   -- ---- sweeps
 
@@ -145,72 +110,30 @@ module _ (B : ℕ → Type 0) where
   rising_of (lock ∷ locks) all = with_of lock (sweep.rising locks) (all lock (inl refl)) (rising_of locks (λ other has. all other (inr has)))
 
   sweep_on_of : (sweep_run : SweepRun) (locks : List Lock) → LocksOf B locks → LeavesOf (sweep.sweep_on sweep_run locks)
-  sweep_on_of sweep_run [] all = tt
-  sweep_on_of sweep_run (lock ∷ locks) all =
-      let rest : LocksOf B locks = λ other has. all other (inr has) in
-      elim (has_prepared lock.t (lock ∷ locks)) as (λ b. SweepsOf (cond b (Resolving lock.t (sweep.others lock.t locks)) (Breaking lock locks))) [
-        | true ↦ (all lock (inl refl), filter_of (λ (other : Lock). not (other.t == lock.t)) locks rest)
-        | false ↦ rest
-      ]
+  sweep_on_of sweep_run locks h2 = search (filter_of, arith)
 
   home_of' : (sweep_run more : SweepRun) (locks : List Lock) → LocksOf B locks → (b : Bool) → LeavesOf (cond b (sweep.lost sweep_run) (sweep.sweep_on more locks))
-  home_of' sweep_run more locks all true = tt
-  home_of' sweep_run more locks all false = sweep_on_of more locks all
+  home_of' sweep_run more locks h3 b = search (sweep_on_of, arith)
 
   answer_of' : (service : Service) (sweep_run : SweepRun) (now : Sweeping) (said : Reply) → SweepsOf now → TellsOf (Replied said) → LeavesOf (sweep.after_answer service sweep_run now said)
-  answer_of' service sweep_run Listing (reply.Locked locks) all tells = sweep_on_of sweep_run (sweep.rising locks) (rising_of locks tells)
-  answer_of' service sweep_run Listing other all tells = tt
-  answer_of' service sweep_run (Resolving t locks) (reply.Verdict v) all tells = all.1
-  answer_of' service sweep_run (Resolving t locks) other all tells = home_of' sweep_run (record sweep_run { left = sweep_run.left + 1 }) locks all.1 (home_of service t == sweep_run.server)
-  answer_of' service sweep_run (Telling t v locks) reply.Done all tells = sweep_on_of (record sweep_run { finished = sweep_run.finished + 1 }) locks all
-  answer_of' service sweep_run (Telling t v locks) other all tells = tt
-  answer_of' service sweep_run (Breaking lock locks) reply.Done all tells = sweep_on_of (record sweep_run { broken = sweep_run.broken + 1 }) locks all
-  answer_of' service sweep_run (Breaking lock locks) other all tells = tt
+  answer_of' service sweep_run now said h4 h5 = search (sweep_on_of, rising_of, home_of', arith)
 
   word_of : (service : Service) (sweep_run : SweepRun) (server : ℕ) (response : Response) → SweepsOf sweep_run.now → TellsOf response → LeavesOf (sweep.after_response service sweep_run server response)
-  word_of service sweep_run server (Replied said) all tells = answer_of' service sweep_run sweep_run.now said all tells
-  word_of service sweep_run server (Lacked lacked) all tells = tt
+  word_of service sweep_run server response h4 h5 = search (answer_of', arith)
 
   running_in : (after : After TransactionRun) → InSweep (left Running after)
-  running_in (GoesOn txn_run) = tt
-  running_in (Ends ending) = tt
+  running_in after = search arith
 
   take_of : (fixed : Fixed) (agent : Agent) (response : Response) (doing : Option Doing) (asked : ℕ × Request) → next_in fixed doing ≡ Some asked → InSweep doing
       → TellsOf response → InSweep (take_in fixed agent response doing (Some asked)).agent.doing
-  take_of fixed agent response None asked next all tells = absurd (none-some asked next)
-  take_of fixed agent response (Some (Running txn_run)) asked next all tells = running_in (after_response fixed txn_run agent.cache asked.0 asked.1 response).after
-  take_of fixed agent response (Some (RunningSweep sweep_run)) asked next all tells = word_of fixed.service sweep_run asked.0 response all tells
+  take_of fixed agent response doing asked h5 h6 h7 = search (none-some, running_in, word_of, arith)
 
   begin_of : (fixed : Fixed) (agent : Agent) (job : Job) → InSweep agent.doing → InSweep (begin fixed agent job).doing
-  begin_of fixed agent job all =
-      elim (is_idle agent.doing && has_sense fixed job && nat_lt agent.count max_jobs) as (λ b. InSweep (cond b (record (started fixed agent job) { count = agent.count + 1 }) agent).doing) [
-        | true ↦ of job
-        | false ↦ all
-      ]
-    where
-      of : (job : Job) → InSweep (started fixed agent job).doing
-      of (Transaction caller site ops) = running_in (execute fixed (record { t = 64 * agent.count + agent.index; caller = caller; site = site; ops = ops }) (record { suites = []; cache = agent.cache })).after
-      of (Sweep server) = tt
+  begin_of fixed agent job all = search arith
 
   -- an agent asks of no others
   asks_of : (fixed : Fixed) (doing : Option Doing) (asked : ℕ × Request) → next_in fixed doing ≡ Some asked → InSweep doing → ((txn_run : TransactionRun) → doing ≡ Some (Running txn_run) → B txn_run.task.t) → BringsIn B asked.1
-  asks_of fixed None asked next all own = absurd (none-some asked next)
-  asks_of fixed (Some (Running txn_run)) asked next all own = named asked.1 (asks_in_its_name fixed txn_run.task txn_run.suites txn_run.phase asked.0 asked.1 next)
-    where
-      mine : (t : ℕ) → (t == txn_run.task.t) ≡ true → B t
-      mine t is = subst B (sym (eqb-true t txn_run.task.t is)) (own txn_run refl)
-
-      named : (asked : Request) → names txn_run.task.t asked ≡ true → BringsIn B asked
-      named (request.Poll t suite mode) is = mine t is
-      named (request.Decide t decision) is = mine t is
-      named (request.Resolve t) is = mine t is
-      named other is = tt
-  asks_of fixed (Some (RunningSweep sweep_run)) asked next all own = subst (BringsIn B)
-      (asks_same (sweep.asked_now fixed.service sweep_run sweep_run.now).0 asked.0 (sweep.asked_now fixed.service sweep_run sweep_run.now).1 asked.1 next) (of sweep_run.now all)
-    where
-      of : (now : Sweeping) → SweepsOf now → BringsIn B (sweep.asked_now fixed.service sweep_run now).1
-      of (Resolving t locks) all = all.0
-      of other all = tt
+  asks_of fixed doing asked h3 h4 h5 = search arith
 
   -- ---- events
 
@@ -258,12 +181,7 @@ module _ (B : ℕ → Type 0) where
         of (Some asked) next = at asked next (server_at world asked.0) refl
 
     operator_sweeps : (server : ℕ) (asked : Request) (found : Option State) → AllSweeps (operates world server asked found).world
-    operator_sweeps server asked None = sweeps
-    operator_sweeps server asked (Some st) =
-        elim (is_full st stamped) as (λ b. AllSweeps (operated world st (cond b None (Some (record { server = server; request = stamped; reply = answer_of st stamped })))).world) [ true ↦ sweeps | false ↦ sweeps ]
-      where
-        stamped : Stamped Request
-        stamped = record { stamp = 0; value = asked }
+    operator_sweeps server asked found = search arith
 
     lack_sweeps : (i : ℕ) (why : Why) (found : Option Actor) → actor_at world i ≡ found → AllSweeps (lacks fixed world i (Lacked why) found).world
     lack_sweeps i why None is = sweeps
@@ -274,21 +192,12 @@ module _ (B : ℕ → Type 0) where
         of (Some asked) next = took_sweeps world.servers i actor asked (Lacked why) actor.stamp is next tt
 
     event_sweeps : (event : Event) → AllSweeps (step fixed world event).world
-    event_sweeps (Begin i job) = becomes_sweeps i (λ agent. begin fixed agent job) (actor_at world i) refl (λ agent all. begin_of fixed agent job all)
-    event_sweeps (Step i) = step_sweeps i (actor_at world i) refl
-    event_sweeps (Crash server) = operator_sweeps server request.Crash (server_at world server)
-    event_sweeps (Return server) = operator_sweeps server request.Return (server_at world server)
-    event_sweeps (Forget i site) = becomes_sweeps i (λ agent. forget agent site) (actor_at world i) refl (λ agent all. all)
-    event_sweeps (Lack i why) = lack_sweeps i why (actor_at world i) refl
+    event_sweeps event = search (becomes_sweeps, begin_of, step_sweeps, operator_sweeps, lack_sweeps, arith)
 
 -- ---- runs
 
 still : (f g : ℕ → Option Agent) (t : ℕ) → ((i : ℕ) (a : Agent) → f i ≡ Some a → (b : Agent) × (g i ≡ Some b) × (a.count ≤ b.count)) → Begun f t → Begun g t
-still f g t rises begun =
-    let more = rises begun.index begun.agent begun.at in
-    let before = begun.before in
-    let counts = more.2 in
-    record { index = begun.index; agent = more.0; at = more.1; place = begun.place; numbered = begun.numbered; before = omega (arith, before, counts) }
+still f g t rises begun = search arith
 
 begun_still : (fixed : Fixed) (events : List Event) (world : World) (t : ℕ) → Begun (agent_at world) t → Begun (agent_at (after fixed world events)) t
 begun_still fixed [] world t begun = begun
@@ -354,5 +263,4 @@ no_record given accepted events i t job begins s st at v is = not_begun given ac
 
 pub no_lock : (given : Opening) → IsAccepted given → (events : List Event) (i t : ℕ) (job : Job) → begins_job given (run given events) (Begin i job) ≡ Some (t, job)
     → (s : ℕ) (st : State) → server_at (run given events) s ≡ Some st → (lock : Lock) → Has st.locks lock → lock.t ≡ t → ⊥
-no_lock given accepted events i t job begins s st at lock has same =
-    not_begun given accepted events i t job begins (subst (Begun (agent_at (run given events))) same ((all_named given accepted events s st at).locks lock has))
+no_lock given accepted events i t job begins s st at lock has same = search (not_begun, agent_at, all_named, arith)

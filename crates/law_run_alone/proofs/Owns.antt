@@ -1,9 +1,8 @@
 -- A transaction that has all locks at the servers that are up: what others do beside it, and its own steps, leave it so.
-use Rattle.law_run_alone.proofs.Vocabulary.{◌≡◌, ℕ, ◌+◌, Bool, true, false, cond, List, [], Option, Some, None, refl, sym, ap, subst, ◌∙◌, arith, ◌*◌, ◌==◌, ◌&&◌, nat_lt, false≢true, nat_tests, none-some, same_Some, Identity, Opening, Op}
-use Rattle.law_run_alone.proofs.Vocabulary.{Request, Verdict, State, Job, Transaction, Response, Fixed, Task, TransactionRun, Doing, Running, RunningSweep, After, GoesOn, Ends, after_response, execute, is_decide, said_by, Agent, fixed_of}
-use Rattle.law_run_alone.proofs.Vocabulary.{is_idle, has_sense, max_jobs, next_in, next_of, left, take_in, begin, started, Event, Begin, Step, Crash, Return, EndedJob, Actor, World, server_at, actor_at, with_actor, becomes, step, Decided}
-use Rattle.law_run_alone.proofs.Vocabulary.{names, begins_now, Leaves, leaves_begin, leaves_response, asks_in_its_name, IsAt, agent_of, Holds, puts_in, begins_job}
-use Rattle.rep_core.specs.declared.request.Request.TheVariants as request
+use Rattle.law_run_alone.proofs.Vocabulary.{◌≡◌, ℕ, ◌+◌, Bool, true, false, cond, List, [], Option, Some, None, refl, sym, ap, subst, ◌∙◌, arith, ◌*◌, ◌&&◌, nat_lt, none-some, same_Some, Identity, Opening, Op, Request, Verdict, State, Job}
+use Rattle.law_run_alone.proofs.Vocabulary.{Transaction, Response, Fixed, Task, TransactionRun, Doing, Running, RunningSweep, After, after_response, execute, is_decide, said_by, Agent, fixed_of, is_idle, has_sense, max_jobs, next_in, next_of, left}
+use Rattle.law_run_alone.proofs.Vocabulary.{take_in, begin, started, Event, Begin, Step, Crash, Return, EndedJob, Actor, World, server_at, actor_at, with_actor, becomes, step, Decided, names, begins_now, Leaves, leaves_begin, leaves_response, IsAt}
+use Rattle.law_run_alone.proofs.Vocabulary.{agent_of, Holds, puts_in, begins_job}
 use Rattle.rep_core.specs.declared.reply.Verdict.TheVariants as verdict
 use Rattle.law_run_alone.proofs.Own as own
 use Rattle.law_run_alone.proofs.Own.{IsOwnAt, PollsFor, is_return, own_at_stays}
@@ -32,31 +31,18 @@ IsCalm given up turn world other = Unit {0}
 -- ---- what it asks
 
 pub polls_named : (t : ℕ) (asked : Request) → names t asked ≡ true → PollsFor t asked
-polls_named t (request.Poll named suite mode) is = equal is
-  where
-    equal : (named == t) ≡ true → named ≡ t
-    equal is = grind (arith, nat_tests)
-polls_named t other is = tt
-
-never_crashes : (t : ℕ) (asked : Request) → names t asked ≡ true → own.is_crash asked ≡ false
-never_crashes t request.Crash is = cc
-never_crashes t other is = refl
+polls_named t asked h2 = search arith
 
 pub never_returns : (t : ℕ) (asked : Request) → names t asked ≡ true → is_return asked ≡ false
-never_returns t request.Return is = cc
-never_returns t other is = refl
+never_returns t asked h2 = search arith
 
 pub names_mine : (fixed : Fixed) (t : ℕ) (doing : Option Doing) (asked : ℕ × Request) → IsMine t doing → next_in fixed doing ≡ Some asked → names t asked.1 ≡ true
-names_mine fixed t None asked mine next = cc
-names_mine fixed t (Some (RunningSweep sweep_run)) asked mine next = absurd mine
-names_mine fixed t (Some (Running txn_run)) asked mine next =
-    ap (λ t. names t asked.1) (sym mine) ∙ asks_in_its_name fixed txn_run.task txn_run.suites txn_run.phase asked.0 asked.1 next
+names_mine fixed t doing asked h4 h5 = search arith
 
 -- ---- what it does then
 
 mine_left : (t : ℕ) (task : Task) (v : Verdict) (after : After TransactionRun) → Leaves task v after → task.t ≡ t → IsMine t (left Running after)
-mine_left t task v (GoesOn txn_run) leaves same = ap (λ (task : Task). task.t) leaves.0 ∙ same
-mine_left t task v (Ends ending) leaves same = tt
+mine_left t task v after h4 h5 = search arith
 
 mine_taken : (fixed : Fixed) (ds : List Decided) (number t : ℕ) (agent : Agent) (response : Response) (asked : ℕ × Request) (doing : Option Doing) → next_in fixed doing ≡ Some asked → IsAt ds number agent.count doing → IsMine t doing
     → IsMine t (take_in fixed agent response doing (Some asked)).agent.doing
@@ -84,16 +70,10 @@ module _ (given : Opening) (up : ℕ → Bool) (t turn : ℕ) (world : World) (d
   May s asked = PollsFor t asked × (own.is_crash asked ≡ false) × (up s ≡ false → is_return asked ≡ false)
 
   may_ask : (event : Event) → IsCalm given up turn world event → MayAsk fixed May world event
-  may_ask (Step i) calm = λ actor asked is next.
-      let named = names_mine fixed t actor.agent.doing asked (mine_at i actor is (calm actor asked is next)) next in
-      (polls_named t asked.1 named, never_crashes t asked.1 named, λ _. never_returns t asked.1 named)
-  may_ask (Crash server) calm = absurd calm
-  may_ask (Return server) calm = (tt, refl, λ down. absurd (false≢true (sym down ∙ calm)))
-  may_ask other calm = tt
+  may_ask event h1 = search arith
 
   begins_none : (event : Event) → IsCalm given up turn world event → BeginsNone given turn world event
-  begins_none (Begin i job) calm = calm
-  begins_none other calm = tt
+  begins_none event h1 = search arith
 
   -- every calm event
   pub event_owns : (event : Event) → IsCalm given up turn world event → Owns up (step fixed world event).world t turn

@@ -1,11 +1,10 @@
 -- What a transaction asks finds the lock that it stands on, where the locks that it was told of stand: so it is not answered Lost.
-use Rattle.law_run_alone.proofs.Vocabulary.{◌≡◌, inl, inr, ℕ, true, false, cond, List, ◌∷◌, map, Option, Some, None, is_some, refl, sym, ap, subst, ◌∙◌, arith, ◌==◌, ◌&&◌, not, filter, list_all, nat_cmp, and_from, false≢true, nat_tests}
-use Rattle.law_run_alone.proofs.Vocabulary.{same_Some, IsValid, Opening, is_exclusive, serves, is_within_limits, Shared, Exclusive, Replica, known_rows, Part, Request, is_lost, Lock, is_own, lock_at, has_lock, has_lock_for, copy_of}
-use Rattle.law_run_alone.proofs.Vocabulary.{goes_with, is_sound_part, lists_twice, State, can_prepare, reply_up, reply_down, reply_of, Has, has_filter, has_map, has_any, any_has, find_some, holds, Poll, Next, Ask, next, ReadPoint}
-use Rattle.law_run_alone.proofs.Vocabulary.{GatheredSuite, suite_of, has_locks, holds_lock, holds_exclusively, lock_mode, known_of, told_in, told_at, change_of, take_of_changed, parts_at, Fixed, home_of, Proposal, Phase, Gathering}
-use Rattle.law_run_alone.proofs.Vocabulary.{Fetching, Widening, Preparing, Deciding, Finishing, TransactionRun, Running, asked_by, asked_for, fetched_at, fetched_for, request_in, changes_of, decision_of, Agent, fixed_of, next_in, next_of}
-use Rattle.law_run_alone.proofs.Vocabulary.{is_idle, is_prepare, stands_on_locks, asks_same, asked_as, fetched_as, Event, Actor, server_at, actor_at, names, asks_in_its_name, IsKnown, row, WasPrefix, hold_of, beginning, known_by, OwesKnown}
-use Rattle.law_run_alone.proofs.Vocabulary.{server_there, Going, Stage, suite_was, told_to, Agrees, DoingAgrees, CameWell, came_preparing, leaves}
+use Rattle.law_run_alone.proofs.Vocabulary.{◌≡◌, inl, inr, ℕ, true, false, List, ◌∷◌, map, Option, Some, None, is_some, refl, sym, ap, subst, ◌∙◌, arith, ◌&&◌, not, filter, list_all, nat_cmp, and_from, false≢true, nat_tests, same_Some, IsValid}
+use Rattle.law_run_alone.proofs.Vocabulary.{Opening, is_exclusive, serves, is_within_limits, Shared, Exclusive, Replica, known_rows, Part, Request, is_lost, Lock, is_own, lock_at, has_lock, has_lock_for, copy_of, goes_with, is_sound_part}
+use Rattle.law_run_alone.proofs.Vocabulary.{lists_twice, State, can_prepare, reply_of, Has, has_filter, has_map, has_any, any_has, find_some, holds, Poll, Next, Ask, next, ReadPoint, GatheredSuite, suite_of, has_locks, holds_lock, holds_exclusively}
+use Rattle.law_run_alone.proofs.Vocabulary.{lock_mode, known_of, told_in, told_at, change_of, take_of_changed, parts_at, Fixed, Proposal, Phase, Fetching, Preparing, Deciding, Finishing, TransactionRun, Running, asked_by, asked_for, fetched_at}
+use Rattle.law_run_alone.proofs.Vocabulary.{fetched_for, request_in, changes_of, Agent, fixed_of, next_in, next_of, is_idle, is_prepare, stands_on_locks, asks_same, asked_as, fetched_as, Event, Actor, server_at, actor_at, names, asks_in_its_name}
+use Rattle.law_run_alone.proofs.Vocabulary.{IsKnown, row, WasPrefix, hold_of, beginning, known_by, OwesKnown, server_there, Going, Stage, suite_was, told_to, Agrees, DoingAgrees, CameWell, came_preparing, leaves}
 use Rattle.rep_core.proofs.IntentionLookups.{get_has}
 use Rattle.txn_core.proofs.PrepareParts.{a_prepare_rises}
 use Rattle.law_suite_machine.specs.Machine.{Told, World}
@@ -28,9 +27,9 @@ use Rattle.law_run_alone.proofs.Sets.{known_small}
 use Rattle.law_run_alone.proofs.Courses.{AreSmall}
 use Rattle.law_run_alone.proofs.Grown.{own_of}
 use Rattle.law_run_alone.proofs.Whole.{Carried}
-use Rattle.law_run_alone.proofs.Lefts.{LeftHold, HoldsIn, prepares_where_it_holds}
+use Rattle.law_run_alone.proofs.Lefts.{LeftHold, prepares_where_it_holds}
 use Rattle.law_run_alone.proofs.Fits.{changed_goes, part_fits}
-use Rattle.law_run_alone.proofs.Replied.{upgrade_not, fetch_not, prepare_not, polled_not, decide_not, finish_not, HasLock, held_lock, has_found, serves_as, all_of, rising_once, unlogged, unanswered}
+use Rattle.law_run_alone.proofs.Replied.{HasLock, held_lock, has_found, serves_as, all_of, rising_once, unlogged, unanswered}
 
 -- what a request of a transaction wants of a server: the lock that it stands on, or that it can be prepared
 abbrev pub Finds : State → Request → Type 0
@@ -41,17 +40,7 @@ Finds st other = Unit {0}
 
 -- so it is not answered Lost
 never_lost : (st : State) (asked : Request) → Finds st asked → is_lost (reply_of st asked) ≡ false
-never_lost st (request.Upgrade t suite) finds = upgrade_not st t suite finds
-never_lost st (request.Fetch t suite) finds = fetch_not st t suite finds
-never_lost st (request.Prepare t parts) finds = prepare_not st t parts finds
-never_lost st (request.Poll t suite mode) finds = polled_not st t suite mode
-never_lost st (request.Decide t decision) finds = decide_not st t decision
-never_lost st (request.Finish t verdict) finds = finish_not st t verdict
-never_lost st (request.Resolve t) finds = elim (st.up) as (λ b. is_lost (cond b (reply_up st (request.Resolve t)) (reply_down (request.Resolve t))) ≡ false) [ true ↦ refl | false ↦ refl ]
-never_lost st (request.Break t suite) finds = elim (st.up) as (λ b. is_lost (cond b (reply_up st (request.Break t suite)) (reply_down (request.Break t suite))) ≡ false) [ true ↦ refl | false ↦ refl ]
-never_lost st request.Locks finds = elim (st.up) as (λ b. is_lost (cond b (reply_up st request.Locks) (reply_down request.Locks)) ≡ false) [ true ↦ refl | false ↦ refl ]
-never_lost st request.Crash finds = elim (st.up) as (λ b. is_lost (cond b (reply_up st request.Crash) (reply_down request.Crash)) ≡ false) [ true ↦ refl | false ↦ refl ]
-never_lost st request.Return finds = elim (st.up) as (λ b. is_lost (cond b (reply_up st request.Return) (reply_down request.Return)) ≡ false) [ true ↦ refl | false ↦ refl ]
+never_lost st asked h2 = search arith
 
 -- the server has some lock of the transaction
 pub record HasSome (t : ℕ) (st : State) : Type 0 where
@@ -216,17 +205,7 @@ module _ (given : Opening) (c0 : IsValid given.c0) (world : worlds.World) (event
   -- ---- any request
 
   by_phase : (phase : Phase) → txn_run.phase ≡ phase → PhasesStand phase → (asked : ℕ × Request) → request_in fixed txn_run.task txn_run.suites phase ≡ Some asked → Goal asked
-  by_phase (Gathering suite) phase stood asked is = collects (Gathering suite) suite asked refl stood is
-  by_phase (Fetching suite) phase stood asked is = fetches suite asked phase stood (suite_of txn_run.suites suite) refl is
-  by_phase (Widening (suite ∷ left) granted) phase stood asked is = collects (Widening (suite ∷ left) granted) suite asked refl stood is
-  by_phase (Preparing (server ∷ left) outcome) phase stood asked is =
-      let sent = parts_at txn_run.suites (changes_of outcome) server in
-      subst Goal (same_Some (server, request.Prepare t sent) asked is)
-      (λ st at. can server left outcome phase stood st at (ap (next_in fixed) running ∙ ap (request_in fixed txn_run.task txn_run.suites) phase))
-  by_phase (Deciding outcome) phase stood asked is =
-      subst Goal (same_Some (home_of fixed.service t, request.Decide t (decision_of txn_run.task outcome)) asked is) (λ st at. tt)
-  by_phase (Finishing (server ∷ left) v ending) phase stood asked is = subst Goal (same_Some (server, request.Finish t v) asked is) (λ st at. tt)
-  by_phase other phase stood asked is = cc
+  by_phase phase h1 h2 asked h4 = search (collects, fetches, same_Some, can, arith)
 
   pub finds : (asked : ℕ × Request) → next_of fixed actor.agent ≡ Some asked → Goal asked
   finds asked next = by_phase txn_run.phase refl (all_stand txn_run.phase stands) asked (ap (next_in fixed) (sym running) ∙ next)
@@ -237,12 +216,7 @@ module _ (given : Opening) (c0 : IsValid given.c0) (world : worlds.World) (event
   -- ---- where it stands on a lock, the server has some of it
 
   own_lock : (named suite : ℕ) (st : State) → named ≡ t → has_lock named suite st.locks ≡ true → HasSome t st
-  own_lock named suite st same has =
-      let is = any_has (is_own named suite) st.locks has in
-      record { lock = is.0; has = is.1; of_it = equal is.0 is.2 ∙ same }
-    where
-      equal : (lock : Lock) → is_own named suite lock ≡ true → lock.t ≡ named
-      equal lock is = grind (arith, nat_tests)
+  own_lock named suite st same has = search (any_has, lock, nat_tests, arith)
 
   -- a Prepare is sent where it was told of a lock
   held_at : (server : ℕ) (st : State) → ((z : ℕ) → Stands (machines z) t) → server_at world server ≡ Some st → has_locks txn_run.suites server ≡ true → HasSome t st
@@ -258,37 +232,19 @@ module _ (given : Opening) (c0 : IsValid given.c0) (world : worlds.World) (event
       equal lock z is = grind (arith, nat_tests)
 
   left_holds : IdleOr fixed actor.agent → LeftHold txn_run.suites txn_run.phase
-  left_holds (inl idle) = absurd (false≢true (ap is_idle (sym running) ∙ idle))
-  left_holds (inr is) = subst HoldsIn (ap (λ (agent : Agent). agent.doing) (sym is.is) ∙ running) (prepares_where_it_holds fixed is.before is.job is.told is.idle)
+  left_holds h0 = search (false≢true, prepares_where_it_holds, arith)
 
   prepare_some : (phase : Phase) → LeftHold txn_run.suites phase → PhasesStand phase → (asked : ℕ × Request) → request_in fixed txn_run.task txn_run.suites phase ≡ Some asked
       → is_prepare asked.1 ≡ true → (st : State) → server_at world asked.0 ≡ Some st → HasSome t st
-  prepare_some (Gathering number) holds stood asked is prepare = absurd (false≢true (sym (asked_as is_prepare false txn_run.task number (suite_of txn_run.suites number) asked.0 asked.1 (λ mode. refl) refl is) ∙ prepare))
-  prepare_some (Fetching number) holds stood asked is prepare = absurd (false≢true (sym (fetched_as is_prepare false txn_run.task number (suite_of txn_run.suites number) asked.0 asked.1 refl is) ∙ prepare))
-  prepare_some (Widening (number ∷ left) granted) holds stood asked is prepare =
-      absurd (false≢true (sym (asked_as is_prepare false txn_run.task number (suite_of txn_run.suites number) asked.0 asked.1 (λ mode. refl) refl is) ∙ prepare))
-  prepare_some (Preparing (server ∷ left) outcome) holds stood asked is prepare =
-      subst (λ (asked : ℕ × Request). (st : State) → server_at world asked.0 ≡ Some st → HasSome t st) (same_Some (server, request.Prepare t (parts_at txn_run.suites (changes_of outcome) server)) asked is)
-      (λ st at. held_at server st stood at (holds server (inl refl)))
-  prepare_some (Deciding outcome) holds stood asked is prepare =
-      absurd (false≢true (ap is_prepare (asks_same (home_of fixed.service t) asked.0 (request.Decide t (decision_of txn_run.task outcome)) asked.1 is) ∙ prepare))
-  prepare_some (Finishing (server ∷ left) v ending) holds stood asked is prepare = absurd (false≢true (ap is_prepare (asks_same server asked.0 (request.Finish t v) asked.1 is) ∙ prepare))
-  prepare_some other holds stood asked is prepare = cc
+  prepare_some phase h1 h2 asked h4 h5 = search (false≢true, asked_as, fetched_as, same_Some, held_at, asks_same, arith)
 
   -- whatever stands on a lock
   by_request : (server : ℕ) (asked : Request) → next_of fixed actor.agent ≡ Some (server, asked) → names t asked ≡ true → stands_on_locks asked ≡ true → (st : State) → server_at world server ≡ Some st → Finds st asked → HasSome t st
-  by_request server (request.Upgrade named suite) next is on st at finds = own_lock named suite st (named_so named is) finds
-    where
-      named_so : (named : ℕ) → (named == t) ≡ true → named ≡ t
-      named_so named is = grind (arith, nat_tests)
-  by_request server (request.Fetch named suite) next is on st at finds = own_lock named suite st (named_so named is) finds
-    where
-      named_so : (named : ℕ) → (named == t) ≡ true → named ≡ t
-      named_so named is = grind (arith, nat_tests)
+  by_request server (request.Upgrade named suite) next is on st at finds = search (own_lock, nat_tests, arith)
+  by_request server (request.Fetch named suite) next is on st at finds = search (own_lock, nat_tests, arith)
   by_request server (request.Prepare named parts) next is on st at finds =
       prepare_some txn_run.phase (left_holds ((now.whole 0).together.jobs number actor there)) (all_stand txn_run.phase stands) (server, request.Prepare named parts) (ap (next_in fixed) (sym running) ∙ next) refl st at
   by_request server other next is on st at finds = absurd (false≢true on)
 
   pub stands_where : (asked : ℕ × Request) → next_of fixed actor.agent ≡ Some asked → stands_on_locks asked.1 ≡ true → (st : State) → server_at world asked.0 ≡ Some st → HasSome t st
-  stands_where asked next on st at =
-      by_request asked.0 asked.1 next (asks_in_its_name fixed txn_run.task txn_run.suites txn_run.phase asked.0 asked.1 (ap (next_in fixed) (sym running) ∙ next)) on st at (finds asked next st at)
+  stands_where asked next on st at = search (by_request, asks_in_its_name, finds, arith)

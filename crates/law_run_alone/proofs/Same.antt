@@ -1,12 +1,12 @@
 -- Of two runs of the same jobs the endings are the same.
-use Rattle.law_run_alone.proofs.Vocabulary.{◌≡◌, inl, inr, ⊎_elim, ℕ, ◌+◌, true, false, List, [], ◌∷◌, ◌++◌, Option, Some, None, refl, sym, ap, subst, ◌∙◌, eq-eqb, ◌*◌, map, nat_eq, Result, Ok, Err, AllByRecursion, cons_option, false≢true}
-use Rattle.law_run_alone.proofs.Vocabulary.{none-some, same_Some, Opening, IsAccepted, Lists, Configuration, empty_content, PlainTable, root, Refusal, Has, has_from, contains_from, Verdict, Ending, Refused, Swept, Undecided, Job}
-use Rattle.law_run_alone.proofs.Vocabulary.{Transaction, Sweep, Doing, TransactionRun, Running, Task, Agent, fixed_of, Event, Begin, EndedJob, Actor, World, opening, actor_at, step, run, Decided, decisions, task_of, task_at, table_with}
-use Rattle.law_run_alone.proofs.Vocabulary.{AnswersAreTheTables, number_of, begins_now, begins_at, begun_from, ended, Answer', NotIn, In, Stands, append_has_left, append_has_right, IsAt, EndStands, same_place, same_or, Holds, agent_of}
-use Rattle.law_run_alone.proofs.Vocabulary.{agent_at, holds_of, answers_are_the_tables, begins_job, jobs_from, jobs_of, one_at_a_time, AreAlike, IsTransaction, IsRunning, AllAreDecided, EndingsAreOne, IsDistinct}
+use Rattle.law_run_alone.proofs.Vocabulary.{◌≡◌, inl, inr, ⊎_elim, ℕ, ◌+◌, true, false, List, [], ◌∷◌, ◌++◌, Option, Some, refl, sym, ap, subst, ◌∙◌, ◌*◌, map, nat_eq, Result, Ok, Err, AllByRecursion, cons_option, arith, none-some, same_Some}
+use Rattle.law_run_alone.proofs.Vocabulary.{Opening, IsAccepted, Lists, Configuration, empty_content, PlainTable, root, Refusal, Has, has_from, contains_from, Verdict, Ending, Refused, Swept, Undecided, Job, Transaction, Sweep, Doing, TransactionRun}
+use Rattle.law_run_alone.proofs.Vocabulary.{Running, Task, Agent, fixed_of, Event, EndedJob, Actor, World, opening, actor_at, step, run, Decided, decisions, task_of, task_at, table_with, AnswersAreTheTables, number_of, begins_at, begun_from, ended}
+use Rattle.law_run_alone.proofs.Vocabulary.{Answer', NotIn, In, Stands, append_has_left, append_has_right, IsAt, EndStands, same_place, same_or, Holds, agent_of, agent_at, holds_of, answers_are_the_tables, begins_job, jobs_from, jobs_of}
+use Rattle.law_run_alone.proofs.Vocabulary.{one_at_a_time, AreAlike, IsTransaction, IsRunning, AllAreDecided, EndingsAreOne, IsDistinct}
 use Rattle.std.proofs.lemmas.Map.Keys.{IsDistinct-head, IsDistinct-tail}
 use Rattle.suite_content.specs.declared.content.Kind.TheVariants.{Folder}
-use Rattle.file_ops.specs.Transactions.{Played, replies, table_after, transaction}
+use Rattle.file_ops.specs.Transactions.{Played, table_after, transaction}
 use Rattle.law_runs.proofs.Begun.{each_is_begun_once}
 use Rattle.txn_core.specs.declared.ending.Ending.TheVariants.{Answered}
 use Rattle.file_ops.specs.Rows as rows
@@ -14,7 +14,7 @@ use Rattle.rep_core.specs.declared.reply.Verdict.TheVariants as verdict
 use Rattle.law_runs.proofs.Worlds as worlds
 use Rattle.law_run_alone.proofs.Verdicts.{Asked, asked_by, asked_of, left_by, said_in, said_is, undecided}
 use Rattle.law_run_alone.proofs.Along.{ApartFrom, AreApart, same_asked, along_has, is_all}
-use Rattle.law_run_alone.proofs.Turns.{doing_of, doing_at, with_job, transaction_as, transactions_of}
+use Rattle.law_run_alone.proofs.Turns.{doing_of, doing_at, transaction_as, transactions_of}
 use Rattle.law_run_alone.proofs.Alone.{Orderly, orderly}
 
 -- ---- numbers of transactions
@@ -22,14 +22,9 @@ use Rattle.law_run_alone.proofs.Alone.{Orderly, orderly}
 abbrev number_in : ℕ × Job → ℕ
 number_in job = job.0
 
-one_begun : (begun : Option ℕ) (job : Job) (later : List ℕ) (jobs : List (ℕ × Job)) → later ≡ map number_in jobs → cons_option begun later ≡ map number_in (cons_option (with_job job begun) jobs)
-one_begun None job later jobs same = same
-one_begun (Some t) job later jobs same = ap (λ later. t ∷ later) same
-
 one_number : (given : Opening) (world : World) (event : Event) (later : List ℕ) (jobs : List (ℕ × Job)) → later ≡ map number_in jobs
     → cons_option (begins_at given world event) later ≡ map number_in (cons_option (begins_job given world event) jobs)
-one_number given world (Begin i job) later jobs same = one_begun (begins_now (fixed_of given) i job (actor_at world i)) job later jobs same
-one_number given world other later jobs same = same
+one_number given world event later jobs h5 = search arith
 
 numbers : (given : Opening) (world : World) (events : List Event) → begun_from given world events ≡ map number_in (jobs_from given world events)
 numbers given world [] = refl
@@ -38,17 +33,14 @@ numbers given world (event ∷ events) =
     one_number given world event (begun_from given later events) (jobs_from given later events) (numbers given later events)
 
 apart_one : (t n : ℕ) (what : Job) (rest : List Asked) (one : Asked) → nat_eq t n ≡ false → (Has rest one → ⊥) → Has (cons_option (transaction_as n what) rest) one → one.0 ≡ t → ⊥
-apart_one t n (Transaction caller site ops) rest one other none has same =
-    ⊎_elim (λ is. false≢true (sym other ∙ eq-eqb t n (sym (ap (λ (asked : Asked). asked.0) is ∙ same)))) none has
-apart_one t n (Sweep server) rest one other none has same = none has
+apart_one t n what rest one h5 h6 h7 h8 = search arith
 
 apart_from : (t : ℕ) (jobs : List (ℕ × Job)) → AllByRecursion (λ other. nat_eq t other ≡ false) (map number_in jobs) → ApartFrom t (transactions_of jobs)
 apart_from t [] all one has same = has
 apart_from t (job ∷ jobs) all one has same = apart_one t job.0 job.1 (transactions_of jobs) one all.0 (λ rest. apart_from t jobs all.1 one rest same) has same
 
 apart_with : (n : ℕ) (what : Job) (rest : List Asked) → ApartFrom n rest → AreApart rest → AreApart (cons_option (transaction_as n what) rest)
-apart_with n (Transaction caller site ops) rest from apart = (from, apart)
-apart_with n (Sweep server) rest from apart = apart
+apart_with n what rest h3 h4 = search arith
 
 apart_all : (jobs : List (ℕ × Job)) → IsDistinct nat_eq (map number_in jobs) → AreApart (transactions_of jobs)
 apart_all [] distinct = tt
@@ -76,9 +68,7 @@ find_job [] one has = absurd has
 find_job (job ∷ jobs) one has = find_one job.0 job.1 jobs one (λ rest. find_job jobs one rest) has
 
 was_begun : (jobs : List (ℕ × Job)) (one : Asked) → Has (transactions_of jobs) one → IsTransaction jobs one.0
-was_begun jobs one has =
-    let found = find_job jobs one has in
-    record { caller = one.1; site = found.site; ops = one.2; there = contains_from jobs (job_as found.site one) found.there }
+was_begun jobs one has = search (find_job, contains_from, arith)
 
 abbrev pub ending_of : Answer' → Ending
 ending_of (Ok answers) = Answered answers
@@ -132,8 +122,7 @@ module _ (given : Opening) (accepted : IsAccepted given) (events : List Event) (
     of_it : txn_run.task ≡ task
 
   course_of : (doing : Option Doing) (task : Task) → task_of doing ≡ Some task → HasCourse doing task
-  course_of (Some (Running txn_run)) task is = record { txn_run = txn_run; is = refl; of_it = same_Some txn_run.task task is }
-  course_of other task is = absurd (none-some task is)
+  course_of doing task h2 = search arith
 
   record HasActor (number : ℕ) (task : Task) : Type 0 where
     actor : Actor
@@ -141,20 +130,10 @@ module _ (given : Opening) (accepted : IsAccepted given) (events : List Event) (
     runs : HasCourse actor.agent.doing task
 
   actor_of : (number : ℕ) (task : Task) → task_at (actor_at (run given events) number) ≡ Some task → HasActor number task
-  actor_of number task is = of (actor_at (run given events) number) refl is
-    where
-      of : (found : Option Actor) → actor_at (run given events) number ≡ found → task_at found ≡ Some task → HasActor number task
-      of None there is = absurd (none-some task is)
-      of (Some actor) there is = record { actor = actor; there = there; runs = course_of actor.agent.doing task is }
+  actor_of number task is = search arith
 
   running_has : (one : Asked) → Has (transactions_of (jobs_of given events)) one → IsRunning (run given events) one.0 → Has some one
-  running_has one has running =
-      let found = actor_of running.number running.task running.runs in
-      course_has one has running.number found.actor found.there found.runs.txn_run found.runs.is (ap (λ (task : Task). task.t) found.runs.of_it ∙ running.of_it)
-      (⊎_elim
-      (λ at. at)
-      (λ apart. absurd (none-some (Running found.runs.txn_run) (sym (now.alone running.number apart) ∙ ap doing_of found.there ∙ found.runs.is)))
-      (same_or running.number now.turn))
+  running_has one has running = search (actor_of, course_has, none-some, doing_of, same_or, arith)
 
   pub is_all_begun : AllAreDecided given events → some ≡ transactions_of (jobs_of given events)
   is_all_begun decided =
@@ -232,10 +211,7 @@ same_answers table (a ∷ ds) (b ∷ es) more others apart apart' answers answer
     let first = same_head (asked_of a) (asked_of b) (map asked_of ds ++ more) (map asked_of es ++ others) same in
     let t : a.t ≡ b.t = ap (λ (asked : Asked). asked.0) first in
     elim has [
-      | inl is ↦ elim has' [
-        | inl is' ↦ ap (λ (d : Decided). d.answer) (sym is) ∙ answers.0 ∙ ap (λ asked. replies (playing table asked)) first ∙ sym answers'.0 ∙ ap (λ (d : Decided). d.answer) is'
-        | inr rest' ↦ absurd (apart'.0 e rest' (sym number ∙ ap (λ (d : Decided). d.t) (sym is) ∙ t))
-      ]
+      | inl is ↦ search arith
       | inr rest ↦ elim has' [
         | inl is' ↦ absurd (apart.0 d rest (number ∙ ap (λ (d : Decided). d.t) (sym is') ∙ sym t))
         | inr rest' ↦
@@ -254,12 +230,7 @@ opened servers c0 owner group acl = record {
 
 -- what caches may keep is nothing to it
 same_table : (given other : Opening) → AreAlike given other → rows.opening other ≡ rows.opening given
-same_table given other alike =
-    ap (λ servers. opened servers other.c0 other.root_owner other.root_group other.root_acl) alike.servers
-    ∙ ap (λ c0. opened given.servers c0 other.root_owner other.root_group other.root_acl) alike.c0
-    ∙ ap (λ owner. opened given.servers given.c0 owner other.root_group other.root_acl) alike.root_owner
-    ∙ ap (λ group. opened given.servers given.c0 given.root_owner group other.root_acl) alike.root_group
-    ∙ ap (opened given.servers given.c0 given.root_owner given.root_group) alike.root_acl
+same_table given other alike = search arith
 
 pub endings_are_one : EndingsAreOne
 endings_are_one given other alike events events' can can' alone alone' same decided decided' job job' there there' number is =

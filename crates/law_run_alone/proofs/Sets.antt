@@ -1,9 +1,8 @@
 -- What a transaction sets of a suite: it makes it only at a number of its own, and else leaves its kind; a content that it sets is within limits; and
 -- its lists fit.
-use Rattle.law_run_alone.proofs.Vocabulary.{◌≡◌, ℕ, Bool, true, false, cond, List, [], ◌∷◌, Option, Some, None, Ok, Err, refl, sym, ap, subst, ◌∙◌, ◌==◌, ◌||◌, ◌&&◌, is_some, option_map, unwrap_or, Result, nat_cmp, false≢true, eqb-true}
-use Rattle.law_run_alone.proofs.Vocabulary.{none-some, same_Some, IsOrdered, get, IsValid, Content, kind_of, empty_content, is_valid_prefix, is_within_limits, Prefix, PrefixKind, LockMode, Exclusive, Answer, Refusal, Row, makes, some}
-use Rattle.law_run_alone.proofs.Vocabulary.{touches, Edits, Ended, seen, head, Known, IsSoAt, AgreesWith, is_held, known_rows, Done, exec_of, ReadPoint, GatheredSuite, Suites, suite_of, row_with, known_of, change_of, prefix_kind, Fixed}
-use Rattle.law_run_alone.proofs.Vocabulary.{Task, Proposal, changes_of, FitsAs, told_as, AllGiveValidVotes, edits_fit, same_kind, agrees_itself}
+use Rattle.law_run_alone.proofs.Vocabulary.{◌≡◌, ℕ, true, false, List, [], ◌∷◌, Option, Some, None, Ok, refl, sym, ap, subst, ◌∙◌, is_some, Result, nat_cmp, false≢true, eqb-true, arith, none-some, same_Some, IsOrdered, get, IsValid, Content, kind_of}
+use Rattle.law_run_alone.proofs.Vocabulary.{is_valid_prefix, is_within_limits, Prefix, PrefixKind, LockMode, Exclusive, Answer, Refusal, Row, makes, some, Edits, Ended, head, Known, IsSoAt, AgreesWith, is_held, known_rows, Done, exec_of, ReadPoint}
+use Rattle.law_run_alone.proofs.Vocabulary.{GatheredSuite, Suites, suite_of, row_with, known_of, change_of, prefix_kind, Fixed, Task, Proposal, changes_of, FitsAs, told_as, AllGiveValidVotes, edits_fit, same_kind, agrees_itself}
 use Rattle.file_exec.proofs.Leading.{changes_by_suite}
 use Rattle.file_exec.specs.KnownSuites.{KnownSuite}
 use Rattle.file_exec.proofs.Unset.{changes_are_held}
@@ -11,8 +10,6 @@ use Rattle.txn_core.proofs.Setting.{known_at}
 use Rattle.txn_core.proofs.Growing.{known_from}
 use Rattle.law_runs.proofs.Executed.{set_by, Came}
 use Rattle.law_headline.proofs.Fair.{FromEdits}
-use Rattle.suite_content.specs.declared.content.Kind.TheVariants as holds
-use Rattle.suite_prefix.specs.declared.copies.PrefixKind.TheVariants as kind
 use Rattle.file_exec.specs.declared.changes.Change as executor
 use Rattle.file_exec.specs.Changes as changes
 use Rattle.file_exec.specs.Known as known
@@ -28,34 +25,17 @@ pub record IsOwn (t z : ℕ) (suites : Suites) (first : ReadPoint) (change : exe
 
 -- the row that was known is known still, but for its content
 head_before : (mode : LockMode) (before : Option KnownSuite) (row : Option Row) → IsSoAt before row → is_held mode before ≡ true → head (known.row_in before) ≡ head row
-head_before mode None row so held = absurd (false≢true held)
-head_before mode (Some it) row so held = so.head
+head_before mode before row h3 h4 = search arith
 
 -- ---- what edits told
 
 from_edits : (before : Known) (edits : Edits) (z : ℕ) (change : executor.Change) → get nat_cmp (changes.changes_of before edits) z ≡ Some change → FromEdits (known_rows before) z edits change
-from_edits before edits z change told = if_touched (touches edits z) (sym (changes_by_suite before edits z) ∙ told)
-  where
-    of : (o : Option Row) → seen edits z (known_rows before z) ≡ o → option_map (told_as edits z) o ≡ Some change → FromEdits (known_rows before) z edits change
-    of (Some row) is told = record { row = row; is = is; told = same_Some (told_as edits z row) change told }
-    of None is told = absurd (none-some change told)
-
-    if_touched : (b : Bool) → cond b (changes.change_of before edits z) None ≡ Some change → FromEdits (known_rows before) z edits change
-    if_touched true told = of (seen edits z (known_rows before z)) refl told
-    if_touched false told = absurd (none-some change told)
+from_edits before edits z change told = search (changes_by_suite, told_as, same_Some, none-some, arith)
 
 -- what is made has a number of the transaction's
 number_of_made : (t : ℕ) (edits : Edits) (z : ℕ) → AllNumbered t edits → some makes edits z ≡ true → IsNumber t z
 number_of_made t [] z numbered is = absurd (false≢true is)
-number_of_made t (e ∷ edits) z numbered is =
-    elim (e.0 == z) as (λ b. (e.0 == z) ≡ b → ((b && makes e.1) || some makes edits z) ≡ true → IsNumber t z) [
-      | true ↦ λ at is. subst (IsNumber t) (eqb-true e.0 z at) (of (makes e.1) refl is (λ rest. subst (IsNumber t) (sym (eqb-true e.0 z at)) (number_of_made t edits z numbered.1 rest)))
-      | false ↦ λ _ is. number_of_made t edits z numbered.1 is
-    ] refl is
-  where
-    of : (b : Bool) → makes e.1 ≡ b → (b || some makes edits z) ≡ true → (some makes edits z ≡ true → IsNumber t e.0) → IsNumber t e.0
-    of true makes is rest = numbered.0 makes
-    of false makes is rest = rest is
+number_of_made t (e ∷ edits) z numbered is = search (eqb-true, number_of_made t edits z, arith)
 
 module _ (fixed : Fixed) (task : Task) (suites : Suites) (outcome : Proposal) (z : ℕ) (suite : GatheredSuite) (first : ReadPoint) (change : executor.Change)
     (there : suite_of suites z ≡ Some suite) (was : suite.first ≡ Some first) (set : change_of (changes_of outcome) z ≡ Some change) (c0 : IsValid fixed.service.c0) (valid : AllGiveValidVotes task.ops)
@@ -82,8 +62,7 @@ module _ (fixed : Fixed) (task : Task) (suites : Suites) (outcome : Proposal) (z
   by_result : (before : Known) → ((rows : ℕ → Option Row) → AgreesWith (known_of suites) rows → AgreesWith before rows) → (result : Result (Ended (List Answer)) Refusal)
       → exec_of fixed.service before task.t task.caller task.ops ≡ Done result
       → change_of (set_by before result) z ≡ Some change → IsOwn task.t z suites first change
-  by_result before agrees (Ok ended) done told = by_edits before agrees ended done told
-  by_result before agrees (Err refusal) done told = absurd (none-some change told)
+  by_result before h1 result h3 h4 = search (by_edits, none-some, arith)
 
   pub came_own : Came fixed task suites outcome → IsOwn task.t z suites first change
   came_own came = by_result came.before came.still.agrees came.result came.was (ap (λ all. change_of all z) (sym came.set) ∙ set)
@@ -91,17 +70,7 @@ module _ (fixed : Fixed) (task : Task) (suites : Suites) (outcome : Proposal) (z
 -- ---- what is known is within limits
 
 row_small : (k : PrefixKind) (prefix : Prefix) (content : Option Content) → ((c : Content) → content ≡ Some c → is_within_limits c ≡ true) → (r : Row) → row_with k prefix content ≡ Some r → is_within_limits r.content ≡ true
-row_small kind.Absent prefix content small r is = absurd (none-some r is)
-row_small kind.File prefix content small r is = subst (λ (r : Row). is_within_limits r.content ≡ true) (same_Some _ r is) (of content small)
-  where
-    of : (content : Option Content) → ((c : Content) → content ≡ Some c → is_within_limits c ≡ true) → is_within_limits (unwrap_or content (empty_content holds.File)) ≡ true
-    of (Some c) small = small c refl
-    of None small = refl
-row_small kind.Folder prefix content small r is = subst (λ (r : Row). is_within_limits r.content ≡ true) (same_Some _ r is) (of content small)
-  where
-    of : (content : Option Content) → ((c : Content) → content ≡ Some c → is_within_limits c ≡ true) → is_within_limits (unwrap_or content (empty_content holds.Folder)) ≡ true
-    of (Some c) small = small c refl
-    of None small = refl
+row_small k prefix content h3 r h5 = search arith
 
 -- where each content is, so is each row that is known
 pub known_small : (suites : Suites) → IsOrdered nat_cmp suites → ((n : ℕ) (suite : GatheredSuite) (first : ReadPoint) (c : Content) → suite_of suites n ≡ Some suite

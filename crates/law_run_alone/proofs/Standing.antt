@@ -1,13 +1,9 @@
 -- The locks that a transaction was told of stand in the machine of a suite, as long as nothing takes one away.
-use Rattle.law_run_alone.proofs.Vocabulary.{◌≡◌, ℕ, Bool, true, false, cond, List, [], ◌∷◌, ◌++◌, Option, Some, None, refl, ap, subst, ◌∙◌, ◌==◌, Ok, Err, none-some, is_exclusive, Part, Request, Reply, ReadPoint, GatheredSuite, Suites}
-use Rattle.law_run_alone.proofs.Vocabulary.{suite_of, Task, Proposal, Phase, Deciding, Doing, Running, RunningSweep, Taken, Beginning, at2, at2_both, some_told, moves, first_verdict, prepare_of, to_write, decides_without, decides_first}
-use Rattle.law_run_alone.proofs.Vocabulary.{decides_on, decision_in, decision_by, fixed_in, aim_of, aims_once, aims, is_finishing, is_at_an_end, gives_up, tells_aborted, begun_events, own_events}
-use Rattle.law_suite_machine.specs.Machine.{Hold, Told, Verdict, World}
-use Rattle.law_suite_machine.specs.Events.{Held, Upgrade, Prepare, Overrule, GiveUp, Finish, Lose, upgraded_hold, upgraded_told, prepared_hold, happens, Event, run}
-use Rattle.law_server_moves.specs.Preparing.{part_of}
-use Rattle.law_suite_machine.specs.Registers.{Change}
+use Rattle.law_run_alone.proofs.Vocabulary.{◌≡◌, ℕ, Bool, true, false, List, [], ◌∷◌, ◌++◌, Option, Some, None, refl, ap, subst, ◌∙◌, none-some, Request, Reply, arith, Doing, Taken, Beginning, at2, at2_both, some_told, moves, decision_by}
+use Rattle.law_run_alone.proofs.Vocabulary.{begun_events, own_events}
+use Rattle.law_suite_machine.specs.Machine.{Hold, Told, World}
+use Rattle.law_suite_machine.specs.Events.{Held, Upgrade, Prepare, Finish, Lose, upgraded_hold, upgraded_told, prepared_hold, happens, Event, run}
 use Rattle.rep_core.specs.declared.request.Request.TheVariants as request
-use Rattle.rep_core.specs.declared.reply.Reply.TheVariants as reply
 
 -- a lock stands in the mode that was told of last
 abbrev pub StandsAs : Option Hold → Told → Type 0
@@ -67,62 +63,16 @@ stands_all start w (event ∷ events) t spares stands = stands_all start (happen
 
 -- ---- what an agent does by itself
 
-spare_aim : (t : ℕ) (new : Option Change) (later : List Event) → AllSpare later → AllSpare (aim_of t new ++ later)
-spare_aim t (Some new) later spares = (tt, spares)
-spare_aim t None later spares = spares
-
-spare_once : (z t : ℕ) (suites : Suites) (before after : Option Proposal) (later : List Event) → AllSpare later → AllSpare (aims_once z t suites before after ++ later)
-spare_once z t suites None (Some outcome) later spares = spare_aim t (to_write z suites outcome) later spares
-spare_once z t suites None None later spares = spares
-spare_once z t suites (Some old) None later spares = spares
-spare_once z t suites (Some old) (Some outcome) later spares = spares
-
-spare_aims : (z t : ℕ) (before : Option Proposal) (after : Option Doing) (later : List Event) → AllSpare later → AllSpare (aims z t before after ++ later)
-spare_aims z t before (Some (Running txn_run)) later spares = spare_once z t txn_run.suites before (fixed_in txn_run.phase) later spares
-spare_aims z t before other later spares = spares
-
-spare_if : (t : ℕ) (b : Bool) → AllSpare (cond b (GiveUp t ∷ []) [])
-spare_if t true = (tt, tt)
-spare_if t false = tt
-
-spare_end : (t : ℕ) (finishing ends : Bool) → AllSpare (cond finishing [] (cond ends (GiveUp t ∷ []) []))
-spare_end t true ends = tt
-spare_end t false ends = spare_if t ends
-
 pub spare_begun : (z : ℕ) (before after : Option Doing) → AllSpare (begun_events z before after)
-spare_begun z None (Some (Running txn_run)) = spare_once z txn_run.task.t txn_run.suites None (fixed_in txn_run.phase) _ (spare_if txn_run.task.t (tells_aborted txn_run.phase))
-spare_begun z (Some doing) (Some (RunningSweep sweep_run)) = tt
-spare_begun z None other = tt
-spare_begun z (Some doing) other = tt
+spare_begun z before after = search arith
 
 pub spare_own : (z : ℕ) (before : Option Doing) (taken : Taken) → AllSpare (own_events z before taken)
-spare_own z (Some (Running before)) taken =
-    spare_aims z before.task.t (fixed_in before.phase) taken.agent.doing (gives_up before.task.t (is_finishing before.phase) taken) (spare_end before.task.t (is_finishing before.phase) (is_at_an_end taken.agent.doing taken.ending))
-spare_own z other taken = tt
+spare_own z before taken = search arith
 
 -- ---- what a decision is
 
-spare_without : (t : ℕ) (outcome : Proposal) → Spares (decides_without t outcome)
-spare_without t (Ok granted) = tt
-spare_without t (Err refusal) = tt
-
-spare_first : (w : World) (t : ℕ) (outcome : Proposal) (new : Option Change) (suite : GatheredSuite) (first : Option ReadPoint) → Spares (decides_first w t outcome new suite first)
-spare_first w t outcome new suite None = spare_without t outcome
-spare_first w t (Err refusal) new suite (Some first) = tt
-spare_first w t (Ok granted) None suite (Some first) = tt
-spare_first w t (Ok granted) (Some new) suite (Some first) = tt
-
-spare_on : (w : World) (t : ℕ) (outcome : Proposal) (new : Option Change) (found : Option GatheredSuite) → Spares (decides_on w t outcome new found)
-spare_on w t outcome new (Some suite) = spare_first w t outcome new suite suite.first
-spare_on w t outcome new None = spare_without t outcome
-
-spare_in : (z : ℕ) (w : World) (task : Task) (suites : Suites) (phase : Phase) → Spares (decision_in z w task suites phase)
-spare_in z w task suites (Deciding outcome) = spare_on w task.t outcome (to_write z suites outcome) (suite_of suites z)
-spare_in z w task suites other = tt
-
 pub spare_decision : (z : ℕ) (w : World) (doing : Option Doing) → Spares (decision_by z w doing)
-spare_decision z w (Some (Running txn_run)) = spare_in z w txn_run.task txn_run.suites txn_run.phase
-spare_decision z w other = tt
+spare_decision z w doing = search arith
 
 -- ---- what a server does
 
@@ -134,21 +84,6 @@ releases request.Crash = true
 releases other = false
 
 module _ (z : ℕ) (home : ℕ → ℕ) (decision : Event) (spares : Spares decision) (i : ℕ) (w : World) where
-  spare_prepare : (t : ℕ) (part : Option Part) → AllSpare (prepare_of i t w part)
-  spare_prepare t (Some part) = (tt, tt)
-  spare_prepare t None = tt
-
-  spare_verdict : (old : Option Verdict) (event : Event) → Spares event → AllSpare (first_verdict old event)
-  spare_verdict None event is = (is, tt)
-  spare_verdict (Some old) event is = tt
 
   pub spare_moves : (asked : Request) (said : Reply) → releases asked ≡ false → AllSpare (moves z home decision i w asked said)
-  spare_moves (request.Poll t suite mode) (reply.Held prefix dver) none = elim (z == suite) as (λ b. AllSpare (cond b (Held i t (is_exclusive mode) ∷ []) [])) [ true ↦ (tt, tt) | false ↦ tt ]
-  spare_moves (request.Upgrade t suite) (reply.Held prefix dver) none = elim (z == suite) as (λ b. AllSpare (cond b (Upgrade i t ∷ []) [])) [ true ↦ (tt, tt) | false ↦ tt ]
-  spare_moves (request.Prepare t parts) reply.Prepared none = spare_prepare t (part_of z parts)
-  spare_moves (request.Decide t decided) (reply.Verdict said) none = elim (home t == i) as (λ b. AllSpare (cond b (first_verdict (w.verdict t) decision) [])) [ true ↦ spare_verdict (w.verdict t) decision spares | false ↦ tt ]
-  spare_moves (request.Resolve t) (reply.Verdict said) none = elim (home t == i) as (λ b. AllSpare (cond b (first_verdict (w.verdict t) (Overrule t)) [])) [ true ↦ spare_verdict (w.verdict t) (Overrule t) tt | false ↦ tt ]
-  spare_moves (request.Finish t verdict) reply.Done none = cc
-  spare_moves (request.Break t suite) reply.Done none = cc
-  spare_moves request.Crash reply.Done none = cc
-  spare_moves _ _ none = tt
+  spare_moves asked said h2 = search arith

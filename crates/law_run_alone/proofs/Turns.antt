@@ -1,12 +1,11 @@
 -- What an event makes of the one agent that is not idle: what was answered to its transaction, and whether it is undecided.
-use Rattle.law_run_alone.proofs.Vocabulary.{◌≡◌, ◌≢◌, ◌⊎◌, inl, inr, ⊎_elim, ℕ, zero, suc, ◌+◌, Bool, true, false, cond, List, [], ◌∷◌, ◌++◌, Option, Some, None, refl, sym, ap, subst, ◌∙◌, arith, ◌*◌, ◌-◌, ◌==◌, ◌&&◌, ◌||◌, not, nat_lt}
-use Rattle.law_run_alone.proofs.Vocabulary.{is_some, map, option_map, option_to_list, slice_get, slice_set, list_all, filter_map, cons_option, and_parts, none-some, Opening, Service, Lock, Request, Reply, Verdict, Stamped, State, record_of}
-use Rattle.law_run_alone.proofs.Vocabulary.{reply_of, is_full, served, answer_of, Ending, Job, Transaction, Sweep, Response, Replied, Lacked, Fixed, Task, TransactionRun, SweepRun, Doing, Running, RunningSweep, After, GoesOn, Ends}
-use Rattle.law_run_alone.proofs.Vocabulary.{Sweeping, Listing, Resolving, Telling, Breaking, home_of, after_response, execute, is_decide, said_by, Agent, Taken, fixed_of, is_idle, has_sense, max_jobs, next_in, next_of, left, end_of}
-use Rattle.law_run_alone.proofs.Vocabulary.{take_in, take, begin, started, forget, asks_same, Event, Begin, Step, Crash, Return, Forget, Served, EndedJob, Actor, World, server_at, actor_at, with_actor, serve, after_serving, moved}
-use Rattle.law_run_alone.proofs.Vocabulary.{outcome_of, lacked, answered, becomes, asks_at, asks, steps_once, lacks_for, lacks, operated, operates, step, Decided, task_of, task_at, task_in, decided_by, decided_at, to_decide, decided_as}
-use Rattle.law_run_alone.proofs.Vocabulary.{answer_in, begins_now, Answer', Stands, Recorded, same_or, Tells, Leaves, leaves_begin, leaves_response, IsAt, sweep_decides_none, no_decide, agent_of, Holds, puts_in, all_idle, begins_job}
-use Rattle.law_run_alone.proofs.Vocabulary.{begins_alone, answer_by, decided_endings, append-nil, Lack as Why}
+use Rattle.law_run_alone.proofs.Vocabulary.{◌≡◌, ◌≢◌, ◌⊎◌, inl, inr, ⊎_elim, ℕ, zero, suc, ◌+◌, true, false, cond, List, [], ◌∷◌, ◌++◌, Option, Some, None, refl, sym, ap, subst, ◌∙◌, arith, ◌*◌, ◌-◌, ◌&&◌, ◌||◌, not, nat_lt, is_some, map, option_map}
+use Rattle.law_run_alone.proofs.Vocabulary.{option_to_list, slice_get, slice_set, list_all, filter_map, cons_option, and_parts, Opening, Service, Request, Verdict, Stamped, State, record_of, reply_of, is_full, served, answer_of, Ending, Job}
+use Rattle.law_run_alone.proofs.Vocabulary.{Transaction, Sweep, Response, Replied, Lacked, Fixed, Task, TransactionRun, SweepRun, Doing, Running, RunningSweep, After, GoesOn, Ends, after_response, execute, is_decide, said_by, Agent, Taken, fixed_of}
+use Rattle.law_run_alone.proofs.Vocabulary.{is_idle, has_sense, max_jobs, next_in, next_of, left, end_of, take_in, take, begin, started, forget, asks_same, Event, Begin, Step, Crash, Return, Forget, Served, EndedJob, Actor, World, server_at}
+use Rattle.law_run_alone.proofs.Vocabulary.{actor_at, with_actor, serve, after_serving, moved, outcome_of, lacked, answered, becomes, asks_at, asks, steps_once, lacks_for, lacks, operates, step, Decided, task_of, task_at, task_in, decided_by}
+use Rattle.law_run_alone.proofs.Vocabulary.{decided_at, to_decide, decided_as, answer_in, begins_now, Stands, Recorded, same_or, Tells, Leaves, leaves_begin, leaves_response, IsAt, sweep_decides_none, no_decide, agent_of, Holds, puts_in, all_idle}
+use Rattle.law_run_alone.proofs.Vocabulary.{begins_job, begins_alone, answer_by, decided_endings, append-nil, Lack as Why}
 use Rattle.run_core.specs.declared.event.Event.TheVariants.{Lack}
 use Rattle.txn_core.specs.Transactions.{Step as Taking}
 use Rattle.rep_core.specs.declared.request.Request.TheVariants as request
@@ -15,7 +14,7 @@ use Rattle.rep_core.specs.declared.reply.Verdict.TheVariants as verdict
 use Rattle.rep_core.specs.declared.stamped.Lack.TheVariants as lack
 use Rattle.txn_core.specs.Sweeps as sweep
 use Rattle.law_run_alone.proofs.Verdicts as verdicts
-use Rattle.law_run_alone.proofs.Verdicts.{Asked, asked_by, asked_of, answer_to, answers_of, left_by, said_in, said_is, undecided, Turns, adds_answer, takes_asked, turns_served, ended_as, leaves_answer, leaves_asked}
+use Rattle.law_run_alone.proofs.Verdicts.{Asked, asked_by, asked_of, answer_to, answers_of, left_by, said_is, undecided, Turns, adds_answer, takes_asked, turns_served, ended_as, leaves_answer, leaves_asked}
 
 -- ---- who does what
 
@@ -57,27 +56,8 @@ abbrev Unanswered : After SweepRun → Type 0
 Unanswered (GoesOn sweep_run) = Unit {0}
 Unanswered (Ends ending) = answer_by ending ≡ None
 
-swept_on : (sweep_run : SweepRun) (locks : List Lock) → Unanswered (sweep.sweep_on sweep_run locks)
-swept_on sweep_run [] = refl
-swept_on sweep_run (lock ∷ locks) = tt
-
-swept_home : (sweep_run more : SweepRun) (left : List Lock) (b : Bool) → Unanswered (cond b (sweep.lost sweep_run) (sweep.sweep_on more left))
-swept_home sweep_run more left true = refl
-swept_home sweep_run more left false = swept_on more left
-
-swept_answer : (service : Service) (sweep_run : SweepRun) (now : Sweeping) (said : Reply) → Unanswered (sweep.after_answer service sweep_run now said)
-swept_answer service sweep_run Listing (reply.Locked locks) = swept_on sweep_run (sweep.rising locks)
-swept_answer service sweep_run Listing other = refl
-swept_answer service sweep_run (Resolving t left) (reply.Verdict v) = tt
-swept_answer service sweep_run (Resolving t left) other = swept_home sweep_run (record sweep_run { left = sweep_run.left + 1 }) left (home_of service t == sweep_run.server)
-swept_answer service sweep_run (Telling t v left) reply.Done = swept_on (record sweep_run { finished = sweep_run.finished + 1 }) left
-swept_answer service sweep_run (Telling t v left) other = refl
-swept_answer service sweep_run (Breaking lock left) reply.Done = swept_on (record sweep_run { broken = sweep_run.broken + 1 }) left
-swept_answer service sweep_run (Breaking lock left) other = refl
-
 swept_response : (service : Service) (sweep_run : SweepRun) (server : ℕ) (response : Response) → Unanswered (sweep.after_response service sweep_run server response)
-swept_response service sweep_run server (Replied said) = swept_answer service sweep_run sweep_run.now said
-swept_response service sweep_run server (Lacked lacked) = refl
+swept_response service sweep_run server response = search arith
 
 -- ---- an agent takes a response
 
@@ -88,18 +68,11 @@ record Takes (number : ℕ) (actor : Actor) (before : Option Doing) (d : Option 
   parts : map asked_of (option_to_list d) ++ more ≡ undecided before
   still : (undecided taken.agent.doing ≡ more) ⊎ (undecided taken.agent.doing ≡ [])
 
--- an answer with its number
-abbrev answer_with : ℕ → Option Answer' → List (ℕ × Answer')
-answer_with t answer = cons_option (option_map (λ answer. (t, answer)) answer) []
-
 cons_is : {X : Type 0} (one : Option X) → cons_option one [] ≡ option_to_list one
-cons_is None = refl
-cons_is (Some x) = refl
+cons_is one = search arith
 
 outcome_as : (number t : ℕ) (actor : Actor) → 64 * (actor.agent.count - 1) + number ≡ t → (ending : Option Ending) → ended_as t ending ≡ decided_endings (option_to_list (outcome_of number actor ending))
-outcome_as number t actor same None = refl
-outcome_as number t actor same (Some ending) =
-    ap (λ t. option_to_list (option_map (λ answer. (t, answer)) (answer_by ending))) (sym same) ∙ sym (cons_is (option_map (λ answer. (64 * (actor.agent.count - 1) + number, answer)) (answer_by ending)))
+outcome_as number t actor h3 ending = search arith
 
 takes_course : (number : ℕ) (actor : Actor) (txn_run : TransactionRun) (v new : Verdict) (d : Option Decided) (step : Taking)
     → 64 * (actor.agent.count - 1) + number ≡ txn_run.task.t → Tells v txn_run.phase → Turns txn_run.task v new d → Leaves txn_run.task new step.after
@@ -117,13 +90,7 @@ takes_course number actor txn_run v new d step same tells turns leaves = record 
 
 takes_round : (number : ℕ) (actor : Actor) (sweep_run : SweepRun) (after : After SweepRun) → Unanswered after
     → Takes number actor (Some (RunningSweep sweep_run)) None (record { agent = record actor.agent { doing = left RunningSweep after }; ending = end_of after })
-takes_round number actor sweep_run (GoesOn more) none = record { answers = refl; more = []; parts = refl; still = inl refl }
-takes_round number actor sweep_run (Ends ending) none = record {
-  answers = ap (λ answer. answer_with (64 * (actor.agent.count - 1) + number) answer ++ []) (sym none);
-  more = [];
-  parts = refl;
-  still = inl refl;
-}
+takes_round number actor sweep_run after h4 = search arith
 
 -- what is decided with it
 pub record Decides' (ds : List Decided) (response : Response) (doing : Option Doing) (asked : Request) (d : Option Decided) : Type 0 where
@@ -140,15 +107,12 @@ takes_response fixed ds number actor response asked d (Some (Running running)) n
     takes_course number actor running at.said (cond (is_decide asked.1) (said_by response at.said) at.said) d
     (after_response fixed running actor.agent.cache asked.0 asked.1 response) (omega (arith, last, numbered)) at.tells (decides.txn_run running at.said refl at.tells at.stands)
     (leaves_response fixed running.task actor.agent.cache running.suites running.phase asked.0 asked.1 response at.said next at.tells)
-takes_response fixed ds number actor response asked d (Some (RunningSweep sweep_run)) next at decides =
-    subst (λ d. Takes number actor (Some (RunningSweep sweep_run)) d (take_in fixed actor.agent response (Some (RunningSweep sweep_run)) (Some asked))) (sym (decides.sweep_run sweep_run refl))
-    (takes_round number actor sweep_run (sweep.after_response fixed.service sweep_run asked.0 response) (swept_response fixed.service sweep_run asked.0 response))
+takes_response fixed ds number actor response asked d (Some (RunningSweep sweep_run)) next at decides = search (takes_round, swept_response, arith)
 
 -- ---- where every agent is idle
 
 pub none_of : (doing : Option Doing) → is_idle doing ≡ true → doing ≡ None
-none_of None idle = refl
-none_of (Some doing) idle = cc
+none_of doing h1 = search arith
 
 pub all_none : (actors : List Actor) → list_all (λ (actor : Actor). is_idle actor.agent.doing) actors ≡ true → (i : ℕ) → doing_of (slice_get actors i) ≡ None
 all_none [] idle i = refl
@@ -191,13 +155,7 @@ module _ (given : Opening) (world : World) (ds : List Decided) (past : List Ende
     asks : (undecided doing ≡ transactions_of ((t, job) ∷ [])) ⊎ (undecided doing ≡ [])
 
   begins_course : (task : Task) (site : ℕ) (after : After TransactionRun) → Leaves task verdict.Aborted after → Begins task.t (Transaction task.caller site task.ops) (left Running after)
-  begins_course task site (GoesOn txn_run) leaves =
-      let said : said_in txn_run.phase ≡ verdict.Aborted = said_is verdict.Aborted txn_run.phase leaves.1 in
-      record {
-        unanswered = ap (answers_of txn_run.task.t) said;
-        asks = inl (ap (left_by (asked_by txn_run.task)) said ∙ ap (λ (task : Task). asked_by task ∷ []) leaves.0);
-      }
-  begins_course task site (Ends ending) leaves = record { unanswered = refl; asks = inr refl }
+  begins_course task site after h3 = search arith
 
   job_begins : (agent : Agent) (job : Job) (i : ℕ) → agent.index ≡ i → Begins (64 * agent.count + i) job (started fixed agent job).doing
   job_begins agent (Transaction caller site ops) i index =
@@ -234,36 +192,18 @@ module _ (given : Opening) (world : World) (ds : List Decided) (past : List Ende
 
   forget_goes : (i site : ℕ) (found : Option Actor) → actor_at world i ≡ found
       → let stepped = becomes world i (λ agent. forget agent site) found in Goes world turn stepped.world (decided_by world None stepped.done.served) stepped.done.outcome None
-  forget_goes i site None is = quiet_goes
-  forget_goes i site (Some actor) is = put_same i actor (record actor { agent = forget actor.agent site }) is refl
+  forget_goes i site found h3 = search (quiet_goes, put_same, arith)
 
   -- ---- the operator
 
   operator_goes : (server : ℕ) (asked : Request) → to_decide asked ≡ None → (found : Option State)
       → Goes world turn (operates world server asked found).world (decided_by world None (operates world server asked found).done.served) (operates world server asked found).done.outcome None
-  operator_goes server asked none None = quiet_goes
-  operator_goes server asked none (Some st) =
-      elim (is_full st stamped) as (λ b. Goes world turn (operated world st (cond b None (Some what))).world
-      (decided_by world None (operated world st (cond b None (Some what))).done.served) (operated world st (cond b None (Some what))).done.outcome None) [
-        | true ↦ quiet_goes
-        | false ↦ subst (λ t. Goes world turn (after_serving st what world) (decided_at (server_at world server) t (decided_as None (answer_in (reply_of st asked)))) None None)
-            (sym none) (same_goes (after_serving st what world) (λ i. refl))
-      ]
-    where
-      stamped : Stamped Request
-      stamped = record { stamp = 0; value = asked }
-
-      what : Served
-      what = record { server = server; request = stamped; reply = answer_of st stamped }
+  operator_goes server asked h2 found = search (quiet_goes, same_goes, arith)
 
   -- ---- an agent takes a response
 
   is_turn : (i : ℕ) (actor : Actor) (asked : ℕ × Request) → actor_at world i ≡ Some actor → next_of fixed actor.agent ≡ Some asked → i ≡ turn
-  is_turn i actor asked is next =
-      ⊎_elim
-      (λ at. at)
-      (λ apart. absurd (none-some asked (sym (ap (next_in fixed) (sym (ap doing_of is) ∙ alone i apart)) ∙ next)))
-      (same_or i turn)
+  is_turn i actor asked is next = search arith
 
   put_goes : (servers : List State) (i : ℕ) (actor new : Actor) (d : Option Decided) (outcome : Option EndedJob) → actor_at world i ≡ Some actor → i ≡ turn
       → verdicts.answered actor.agent.doing ++ map answer_to (option_to_list d) ≡ decided_endings (option_to_list outcome) ++ verdicts.answered new.agent.doing
@@ -292,14 +232,7 @@ module _ (given : Opening) (world : World) (ds : List Decided) (past : List Ende
       put_goes servers i actor (moved actor stamp (take fixed actor.agent response)) d (outcome_of i actor (take fixed actor.agent response).ending) is (is_turn i actor asked is next) takes.answers takes.more takes.parts takes.still
 
   lacked_decides : (why : Why) (doing : Option Doing) (asked : Request) → Decides' ds (Lacked why) doing asked None
-  lacked_decides why doing asked = record {
-    txn_run = λ txn_run v is tells stands. inl (record { none = refl; same = same (is_decide asked) v });
-    sweep_run = λ sweep_run is. refl;
-  }
-    where
-      same : (b : Bool) (v : Verdict) → cond b v v ≡ v
-      same true v = refl
-      same false v = refl
+  lacked_decides why doing asked = search arith
 
   lacked_goes : (i : ℕ) (actor : Actor) (asked : ℕ × Request) (why : Why) → actor_at world i ≡ Some actor → next_of fixed actor.agent ≡ Some asked
       → Goes world turn (lacked fixed world i actor (Lacked why)).world None (lacked fixed world i actor (Lacked why)).done.outcome None
@@ -308,31 +241,8 @@ module _ (given : Opening) (world : World) (ds : List Decided) (past : List Ende
   served_decides : (s : ℕ) (st : State) (asked : Request) (doing : Option Doing) → next_in fixed doing ≡ Some (s, asked) → ((t : ℕ) (v : Verdict) → record_of st t ≡ Some v → Recorded ds t v)
       → Decides' ds (Replied (reply_of st asked)) doing asked (decided_at (Some st) (to_decide asked) (decided_as (task_of doing) (answer_in (reply_of st asked))))
   served_decides s st asked None next recorded_so = cc
-  served_decides s st asked (Some (Running running)) next recorded_so = record {
-    txn_run = λ other v is tells stands.
-        let same : running ≡ other = ap (course_in running) is in
-        let mine = λ (txn_run : TransactionRun). Turns txn_run.task v (cond (is_decide asked) (said_by (Replied (reply_of st asked)) v) v)
-        (decided_at (Some st) (to_decide asked) (decided_as (Some running.task) (answer_in (reply_of st asked)))) in
-        subst mine same (turns_served fixed running ds s st asked v (subst (λ (txn_run : TransactionRun). Tells v txn_run.phase) (sym same) tells)
-        (subst (λ (txn_run : TransactionRun). Stands ds txn_run.task.t v) (sym same) stands) next recorded_so (is_decide asked) refl);
-    sweep_run = λ sweep_run is. absurd (running_round running sweep_run is);
-  }
-    where
-      course_in : TransactionRun → Option Doing → TransactionRun
-      course_in before (Some (Running txn_run)) = txn_run
-      course_in before other = before
-
-      running_round : (a : TransactionRun) (b : SweepRun) → ◌≡◌ {A = Option Doing} (Some (Running a)) (Some (RunningSweep b)) → ⊥
-      running_round a b is = cc
-  served_decides s st asked (Some (RunningSweep sweep_run)) next recorded_so =
-      let other : is_decide asked ≡ false = ap is_decide (sym (asks_same _ s _ asked next)) ∙ sweep_decides_none fixed.service sweep_run sweep_run.now in
-      record {
-        txn_run = λ txn_run v is tells stands. absurd (round_running sweep_run txn_run is);
-        sweep_run = λ _ is. ap (λ t. decided_at (Some st) t (decided_as None (answer_in (reply_of st asked)))) (no_decide asked other);
-      }
-    where
-      round_running : (a : SweepRun) (b : TransactionRun) → ◌≡◌ {A = Option Doing} (Some (RunningSweep a)) (Some (Running b)) → ⊥
-      round_running a b is = cc
+  served_decides s st asked (Some (Running running)) next recorded_so = grind (turns_served, arith)
+  served_decides s st asked (Some (RunningSweep sweep_run)) next recorded_so = search (asks_same, sweep_decides_none, no_decide, arith)
 
   served_goes : (i : ℕ) (actor : Actor) (asked : ℕ × Request) (st : State) → actor_at world i ≡ Some actor → next_of fixed actor.agent ≡ Some asked → server_at world asked.0 ≡ Some st
       → let stepped = answered fixed world i actor st (serve asked.0 st (record { stamp = actor.stamp; value = asked.1 })) in

@@ -1,8 +1,8 @@
 -- A transaction that begins where every agent is idle, every server is up and no lock is left: as long as nothing disturbs it, it goes as where all servers are up, and ends decided.
-use Rattle.law_run_alone.proofs.Vocabulary.{◌≡◌, ℕ, ◌+◌, Bool, true, false, cond, List, [], ◌∷◌, Option, Some, None, refl, sym, ap, subst, ◌∙◌, arith, ◌++◌, append_assoc, ◌*◌, ◌-◌, slice_get, ◌&&◌, nat_lt, slice_set, none-some, same_Some}
-use Rattle.law_run_alone.proofs.Vocabulary.{IsValid, Opening, Request, Reply, State, reply_of, Cause, Ending, Undecided, Replied, Fixed, Doing, Running, RunningSweep, Task, after_response, is_decide, said_by, Agent, fixed_of, is_idle}
-use Rattle.law_run_alone.proofs.Vocabulary.{next_in, next_of, take_in, take, has_sense, max_jobs, begin, started, Event, Begin, EndedJob, Actor, World, server_at, actor_at, outcome_of, step, becomes, run, number_of, begins_now, IsAt}
-use Rattle.law_run_alone.proofs.Vocabulary.{leaves_response, agent_of, puts_in, begins_job, all_idle, disturbs, is_decided, no_locks, Identity, Op, Job, Transaction, CanBe, JobGivesValidVotes, all_up as every_up}
+use Rattle.law_run_alone.proofs.Vocabulary.{◌≡◌, ℕ, ◌+◌, Bool, true, false, cond, List, [], ◌∷◌, Option, Some, None, refl, sym, ap, subst, ◌∙◌, arith, ◌++◌, append_assoc, ◌*◌, ◌-◌, slice_get, ◌&&◌, nat_lt, slice_set, none-some, IsValid, Opening}
+use Rattle.law_run_alone.proofs.Vocabulary.{Request, Reply, State, reply_of, Cause, Ending, Undecided, Replied, Fixed, Doing, Running, RunningSweep, Task, after_response, is_decide, said_by, Agent, fixed_of, is_idle, next_in, next_of, take_in, take}
+use Rattle.law_run_alone.proofs.Vocabulary.{has_sense, max_jobs, begin, started, Event, Begin, EndedJob, Actor, World, server_at, actor_at, outcome_of, step, becomes, run, number_of, begins_now, IsAt, leaves_response, agent_of, puts_in, begins_job}
+use Rattle.law_run_alone.proofs.Vocabulary.{all_idle, disturbs, is_decided, no_locks, Identity, Op, Job, Transaction, CanBe, JobGivesValidVotes, all_up as every_up}
 use Rattle.law_run_alone.proofs.Turns.{doing_of, doing_at, with_job, all_none}
 use Rattle.law_run_alone.proofs.Owns.{IsMine}
 use Rattle.law_run_alone.proofs.Clear.{Clear, is_calm, event_clear, begun_clear, clear_servers}
@@ -65,17 +65,14 @@ module _ (given : Opening) (c0 : IsValid given.c0) (t turn : ℕ) (all : List Ev
 
   -- how it ends, if it does
   outcome_ending : (ending : Option Ending) (job : EndedJob) → outcome_of turn at.actor ending ≡ Some job → (ending ≡ Some job.ending) × (number_of job ≡ 64 * (at.actor.agent.count - 1) + turn)
-  outcome_ending None job is = absurd (none-some job is)
-  outcome_ending (Some ending) job is = let same = same_Some _ job is in (ap (λ (job : EndedJob). Some job.ending) same, sym (ap number_of same))
+  outcome_ending ending job h2 = search arith
 
   -- its number
   number_is : (asked : ℕ × Request) → next_of fixed at.actor.agent ≡ Some asked → 64 * (at.actor.agent.count - 1) + turn ≡ t
   number_is asked next = of at.actor.agent.doing next mine (facts.holds.agents.at turn at.actor.agent (ap agent_of at.there))
     where
       of : (doing : Option Doing) → next_in fixed doing ≡ Some asked → IsMine t doing → IsAt facts.ds turn at.actor.agent.count doing → 64 * (at.actor.agent.count - 1) + turn ≡ t
-      of None next own stands = absurd (none-some asked next)
-      of (Some (RunningSweep sweep_run)) next own stands = absurd own
-      of (Some (Running txn_run)) next own stands = let numbered = stands.numbered in let last = stands.last in omega (arith, numbered, last, own)
+      of doing h1 h2 h3 = search (none-some, arith)
 
   take_decided : (asked : ℕ × Request) (said : Reply) → next_of fixed at.actor.agent ≡ Some asked → (ending : Ending)
       → (take fixed at.actor.agent (Replied said)).ending ≡ Some ending → ((cause : Cause) → ending ≡ Undecided cause → ⊥) → is_decided ending ≡ true
@@ -106,8 +103,7 @@ module _ (given : Opening) (c0 : IsValid given.c0) (t turn : ℕ) (all : List Ev
 
   -- and who did not end still runs
   no_ending : (ending : Option Ending) → outcome_of turn at.actor ending ≡ None → ending ≡ None
-  no_ending None is = refl
-  no_ending (Some ending) is = absurd (none-some _ (sym is))
+  no_ending ending h1 = search arith
 
   pub still_runs : is_idle (doing_at world turn) ≡ false → (step fixed world event).done.outcome ≡ None → is_idle (doing_at (step fixed world event).world turn) ≡ false
   still_runs runs' is = ap (λ found. is_idle (doing_of found)) moves.1 ∙ of moves.2
@@ -116,14 +112,7 @@ module _ (given : Opening) (c0 : IsValid given.c0) (t turn : ℕ) (all : List Ev
       runs = ap (λ found. is_idle (doing_of found)) (sym at.there) ∙ runs'
 
       of : Went fixed world turn at.actor moves.0.agent (step fixed world event).done.outcome → is_idle moves.0.agent.doing ≡ false
-      of (Stayed same out) = ap (λ (agent : Agent). is_idle agent.doing) same ∙ runs
-      of (Forgot site same out) = ap (λ (agent : Agent). is_idle agent.doing) same ∙ runs
-      of (Took asked st what next there served told same out) =
-          let said = reply_of st asked.1 in
-          let none = no_ending (take fixed at.actor.agent (Replied said)).ending (sym out ∙ is) in
-          ap (λ (agent : Agent). is_idle agent.doing) same
-          ∙ ap (λ o. is_idle (take_in fixed at.actor.agent (Replied said) at.actor.agent.doing o).agent.doing) next
-          ∙ goes_on fixed at.actor.agent said at.actor.agent.doing asked next t mine (sym (ap (λ o. (take_in fixed at.actor.agent (Replied said) at.actor.agent.doing o).ending) next) ∙ none)
+      of h0 = search (runs, no_ending, goes_on, mine, arith)
 
 -- ---- a transaction that begins
 

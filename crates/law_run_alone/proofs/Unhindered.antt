@@ -1,16 +1,12 @@
 -- What is known of every run, which replies are free, and how a transaction ends that does not end undecided.
-use Rattle.law_run_alone.proofs.Vocabulary.{◌≡◌, ℕ, zero, suc, ◌+◌, Bool, true, false, cond, List, [], ◌∷◌, Option, Some, None, refl, sym, ap, subst, ◌∙◌, ◌||◌, slice_get, false≢true, none-some, same_Some, IsValid, Opening, Replica}
-use Rattle.law_run_alone.proofs.Vocabulary.{Exclusive, Lock, Request, Reply, Verdict, is_lost, in_the_way, has_lock, copy_of, State, reply_of, reply_up, reply_down, locking_reply, stands_prepared, can_prepare, Cause, Ending, Undecided}
-use Rattle.law_run_alone.proofs.Vocabulary.{Replied, Fixed, TransactionRun, Doing, Running, RunningSweep, After, GoesOn, Ends, after_response, ending_by, stands_on_locks, Agent, fixed_of, is_idle, next_in, left, end_of, take_in, Event}
-use Rattle.law_run_alone.proofs.Vocabulary.{Crash, EndedJob, Actor, World, opening, servers_from, server_at, actor_at, step, after, run, Decided, names, Leaves, Holds, is_crash, disturbs, is_decided}
+use Rattle.law_run_alone.proofs.Vocabulary.{◌≡◌, ℕ, zero, suc, ◌+◌, Bool, true, false, List, [], ◌∷◌, Option, Some, None, subst, slice_get, none-some, same_Some, IsValid, Opening, arith, Request, Reply, Verdict, is_lost, copy_of, State, reply_of}
+use Rattle.law_run_alone.proofs.Vocabulary.{reply_up, Cause, Ending, Undecided, Replied, Fixed, TransactionRun, Doing, After, ending_by, stands_on_locks, Agent, fixed_of, is_idle, next_in, end_of, take_in, Event, EndedJob, Actor, World, opening}
+use Rattle.law_run_alone.proofs.Vocabulary.{servers_from, server_at, actor_at, step, after, run, Decided, names, Leaves, Holds, is_crash, disturbs, is_decided}
 use Rattle.rep_core.specs.Consistency.{IsConsistent}
 use Rattle.rep_core.proofs.Consistent.{consistent_step, consistent_opening}
 use Rattle.rep_core.proofs.FittingReplies.{reply_fits}
-use Rattle.rep_core.specs.declared.request.Request.TheVariants as request
-use Rattle.rep_core.specs.declared.reply.Reply.TheVariants as reply
-use Rattle.rep_core.specs.declared.reply.Verdict.TheVariants as verdict
 use Rattle.rep_core.specs.State as state
-use Rattle.law_run_alone.proofs.Own.{IsOwnAt, is_return, up_as, not_busy_at, down_at, replies_down}
+use Rattle.law_run_alone.proofs.Own.{IsOwnAt, is_return, up_as, not_busy_at, down_at}
 use Rattle.law_run_alone.proofs.Owns.{IsMine, polls_named, never_returns}
 use Rattle.law_run_alone.proofs.Votes.{HasValidVotes}
 use Rattle.law_run_alone.proofs.Exchanged.{TellsValid, IsFree}
@@ -39,27 +35,11 @@ all_consistent given events = run_all (fixed_of given) events (opening given) (�
 
 -- ---- replies tell of valid votes
 
-locking_valid : (other : Option Lock) (copy : Replica) → IsValid copy.prefix.votes → TellsValid (locking_reply other copy)
-locking_valid None copy valid = valid
-locking_valid (Some other) copy valid = tt
-
 pub up_valid : (st : State) → ((suite : ℕ) → IsValid (copy_of st.store suite).prefix.votes) → (asked : Request) → TellsValid (reply_up st asked)
-up_valid st valid (request.Poll t suite mode) = locking_valid (in_the_way t suite mode st.locks) (copy_of st.store suite) (valid suite)
-up_valid st valid (request.Upgrade t suite) =
-    elim (has_lock t suite st.locks) as (λ b. TellsValid (cond b (locking_reply (in_the_way t suite Exclusive st.locks) (copy_of st.store suite)) reply.Lost)) [
-      | true ↦ locking_valid (in_the_way t suite Exclusive st.locks) (copy_of st.store suite) (valid suite)
-      | false ↦ tt
-    ]
-up_valid st valid (request.Fetch t suite) = elim (has_lock t suite st.locks) as (λ b. TellsValid (cond b (reply.Given (copy_of st.store suite).dver (copy_of st.store suite).content) reply.Lost)) [ true ↦ tt | false ↦ tt ]
-up_valid st valid (request.Prepare t parts) = elim (stands_prepared st t parts || can_prepare st t parts) as (λ b. TellsValid (cond b reply.Prepared reply.Lost)) [ true ↦ tt | false ↦ tt ]
-up_valid st valid other = tt
-
-tells_valid : (st : State) (asked : Request) → st.up ≡ true → ((suite : ℕ) → IsValid (copy_of st.store suite).prefix.votes) → TellsValid (reply_of st asked)
-tells_valid st asked up valid = subst (λ b. TellsValid (cond b (reply_up st asked) (reply_down asked))) (sym up) (up_valid st valid asked)
+up_valid st h1 asked = search arith
 
 tells_valid_at : (b : Bool) (st : State) (asked : Request) → is_return asked ≡ false → st.up ≡ b → ((suite : ℕ) → IsValid (copy_of st.store suite).prefix.votes) → TellsValid (reply_of st asked)
-tells_valid_at true st asked other up valid = tells_valid st asked up valid
-tells_valid_at false st asked other down valid = subst TellsValid (sym (replies_down st asked other down)) tt
+tells_valid_at b st asked h3 h4 h5 = search arith
 
 -- a reply to a transaction is free, where it is not Lost and what stands on a lock is asked where the server is up
 pub free_reply : (b : Bool) (t : ℕ) (st : State) (asked : Request) → names t asked ≡ true → IsOwnAt b t st → IsConsistent st
@@ -78,27 +58,17 @@ free_reply b t st asked named own sound valid unswept kept stood = record {
 -- ---- endings
 
 decided_by : (v : Verdict) (cause : Cause) → ((cause' : Cause) → ending_by v cause ≡ Undecided cause' → ⊥) → is_decided (ending_by v cause) ≡ true
-decided_by verdict.Aborted cause none = absurd (none cause refl)
-decided_by other cause none = refl
+decided_by v cause h2 = search arith
 
 -- a transaction that does not end undecided is decided
 pub after_decided : (txn_run : TransactionRun) (v : Verdict) (after : After TransactionRun) (ending : Ending) → Leaves txn_run.task v after → end_of after ≡ Some ending
     → ((cause : Cause) → ending ≡ Undecided cause → ⊥) → is_decided ending ≡ true
-after_decided txn_run v (GoesOn more) ending leaves is none = absurd (none-some ending is)
-after_decided txn_run v (Ends other) ending leaves is none =
-    let as' : ending ≡ ending_by v leaves.0 = sym (same_Some other ending is) ∙ leaves.1 in
-    ap is_decided as' ∙ decided_by v leaves.0 (λ cause same. none cause (as' ∙ same))
+after_decided txn_run v after ending h4 h5 h6 = search arith
 
 -- who took a response and did not end goes on
 pub goes_on : (fixed : Fixed) (agent : Agent) (said : Reply) (doing : Option Doing) (asked : ℕ × Request) → next_in fixed doing ≡ Some asked → (t : ℕ) → IsMine t doing → (take_in fixed agent (Replied said) doing (Some asked)).ending ≡ None
     → is_idle (take_in fixed agent (Replied said) doing (Some asked)).agent.doing ≡ false
-goes_on fixed agent said None asked next t mine none = absurd (none-some asked next)
-goes_on fixed agent said (Some (RunningSweep sweep_run)) asked next t mine none = absurd mine
-goes_on fixed agent said (Some (Running txn_run)) asked next t mine none = of (after_response fixed txn_run agent.cache asked.0 asked.1 (Replied said)).after none
-  where
-    of : (after : After TransactionRun) → end_of after ≡ None → is_idle (left Running after) ≡ false
-    of (GoesOn more) none = refl
-    of (Ends ending) none = absurd (none-some ending (sym none))
+goes_on fixed agent said doing asked h5 t h7 h8 = search arith
 
 -- ---- what holds as long as nothing disturbs it
 
@@ -111,5 +81,4 @@ pub record Facts (given : Opening) (world : World) : Type 0 where
   pub caches : (i : ℕ) (actor : Actor) → actor_at world i ≡ Some actor → HasValidVotes actor.agent.cache
 
 pub no_crash : (given : Opening) (world : World) (event : Event) → disturbs given world event ≡ false → is_crash event ≡ false
-no_crash given world (Crash server) calm = absurd (false≢true (sym calm))
-no_crash given world other calm = refl
+no_crash given world event h3 = search arith

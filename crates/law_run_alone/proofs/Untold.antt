@@ -1,7 +1,7 @@
 -- A transaction that begins was told of no lock yet, so all that it was told of stand.
-use Rattle.law_run_alone.proofs.Vocabulary.{◌≡◌, ℕ, ◌+◌, true, false, cond, List, [], Option, Some, None, is_some, refl, sym, ap, subst, ◌∙◌, ◌*◌, ◌&&◌, nat_lt, slice_get, slice_set, false≢true, none-some, same_Some, Identity, Opening}
-use Rattle.law_run_alone.proofs.Vocabulary.{Shared, Op, holds, Job, Transaction, Fixed, Task, TransactionRun, Doing, Running, After, GoesOn, Ends, execute, Agent, fixed_of, is_idle, has_sense, max_jobs, left, begin, started, told_at, Event}
-use Rattle.law_run_alone.proofs.Vocabulary.{Actor, actor_at, becomes, begins_now, DoingAgrees}
+use Rattle.law_run_alone.proofs.Vocabulary.{◌≡◌, ℕ, ◌+◌, true, false, cond, List, [], Option, Some, None, is_some, refl, sym, ap, subst, ◌∙◌, ◌*◌, ◌&&◌, nat_lt, slice_get, slice_set, false≢true, none-some, same_Some, Identity, Opening, arith, Shared}
+use Rattle.law_run_alone.proofs.Vocabulary.{Op, holds, Job, Transaction, Fixed, Task, TransactionRun, Doing, Running, After, execute, Agent, fixed_of, is_idle, has_sense, max_jobs, left, begin, started, told_at, Event, Actor, actor_at, becomes}
+use Rattle.law_run_alone.proofs.Vocabulary.{begins_now, DoingAgrees}
 use Rattle.txn_core.proofs.ToldLists.{are_nil, leaves_execute, Leaves}
 use Rattle.law_run_machine.proofs.Turned.{only, set_here}
 use Rattle.law_suite_machine.specs.Machine.{World}
@@ -57,5 +57,4 @@ started_untold given world i t caller site ops (Some old) is begins actor txn_ru
     task = record { t = 64 * old.agent.count + old.agent.index; caller = caller; site = site; ops = ops }
 
     of : (after : After TransactionRun) → Leaves (λ number. []) after → left Running after ≡ Some (Running txn_run) → told_at txn_run.suites z ≡ []
-    of (GoesOn went) are same = only went (λ (txn_run : TransactionRun). told_at txn_run.suites z ≡ []) (are.1 z) txn_run same
-    of (Ends ending) are same = cc
+    of after h1 h2 = search (only, arith)

@@ -1,10 +1,9 @@
 -- What was said of a transaction, and what a response adds to it.
-use Rattle.law_run_alone.proofs.Vocabulary.{◌≡◌, ◌⊎◌, inl, inr, ℕ, Bool, true, false, cond, List, [], ◌∷◌, ◌++◌, Option, Some, None, refl, sym, ap, subst, ◌∙◌, is_some, map, option_map, option_to_list, Ok, Err, Identity, Op, Request}
-use Rattle.law_run_alone.proofs.Vocabulary.{Verdict, State, record_of, reply_of, recorded, verdict_of, Cause, Ending, Replied, Fixed, Task, Proposal, Phase, Finishing, TransactionRun, Doing, Running, After, GoesOn, Ends, decision_of}
-use Rattle.law_run_alone.proofs.Vocabulary.{ending_by, request_in, is_decide, said_by, left, end_of, Answer', NotIn, Stands, Recorded, verdict_as, decides, no_decide, Tells, Leaves, answer_by, append-nil}
+use Rattle.law_run_alone.proofs.Vocabulary.{◌≡◌, ◌⊎◌, inl, ℕ, Bool, true, false, cond, List, [], ◌∷◌, ◌++◌, Option, Some, None, sym, ap, subst, is_some, map, option_map, option_to_list, Ok, Err, Identity, Op, Request, arith, Verdict, State}
+use Rattle.law_run_alone.proofs.Vocabulary.{record_of, reply_of, recorded, verdict_of, Ending, Replied, Fixed, Task, Proposal, Phase, Finishing, TransactionRun, Doing, Running, After, decision_of, request_in, is_decide, said_by, left, end_of}
+use Rattle.law_run_alone.proofs.Vocabulary.{Answer', NotIn, Stands, Recorded, verdict_as, decides, no_decide, Tells, Leaves, answer_by}
 use Rattle.run_core.specs.Decisions.{answer_of, Decided, to_decide, decided_as, decided_at, answer_in}
 use Rattle.rep_core.specs.declared.request.Request.TheVariants as request
-use Rattle.rep_core.specs.declared.reply.Reply.TheVariants as reply
 use Rattle.rep_core.specs.declared.reply.Verdict.TheVariants as verdict
 
 -- ---- what was said
@@ -39,8 +38,7 @@ said_in (Finishing servers told ending) = told
 said_in other = verdict.Aborted
 
 pub said_is : (v : Verdict) (phase : Phase) → Tells v phase → said_in phase ≡ v
-said_is v (Finishing servers told ending) tells = tells.0
-said_is v other tells = sym tells
+said_is v phase h2 = search arith
 
 -- what was answered to the transaction that an agent runs, and whether it is undecided
 abbrev pub answered : Option Doing → List (ℕ × Answer')
@@ -69,42 +67,17 @@ abbrev pub Turns : Task → Verdict → Verdict → Option Decided → Type 0
 Turns task v new d = Same v new d ⊎ Newly task v new d
 
 pub adds_answer : (task : Task) (v new : Verdict) (d : Option Decided) → Turns task v new d → answers_of task.t v ++ map answer_to (option_to_list d) ≡ answers_of task.t new
-adds_answer task v new d turns = elim turns [
-  | inl same ↦ ap (λ d. answers_of task.t v ++ map answer_to (option_to_list d)) same.none ∙ append-nil (answers_of task.t v) ∙ ap (answers_of task.t) (sym same.same)
-  | inr newly ↦
-      ap (λ v. answers_of task.t v ++ map answer_to (option_to_list d)) newly.was
-      ∙ ap (λ d. map answer_to (option_to_list d)) newly.is
-      ∙ ap (λ t. (t, newly.one.answer) ∷ []) (ap (λ (asked : Asked). asked.0) newly.asked)
-      ∙ of newly.one.answer
-      ∙ ap (answers_of task.t) (sym newly.said)
-]
-  where
-    of : (answer : Answer') → ◌≡◌ {A = List (ℕ × Answer')} ((task.t, answer) ∷ []) (answers_of task.t (verdict_as answer))
-    of (Ok answers) = refl
-    of (Err refusal) = refl
+adds_answer task v new d turns = search arith
 
 pub takes_asked : (task : Task) (v new : Verdict) (d : Option Decided) → Turns task v new d → map asked_of (option_to_list d) ++ left_by (asked_by task) new ≡ left_by (asked_by task) v
-takes_asked task v new d turns = elim turns [
-  | inl same ↦ ap (λ d. map asked_of (option_to_list d) ++ left_by (asked_by task) new) same.none ∙ ap (left_by (asked_by task)) same.same
-  | inr newly ↦
-      ap (λ d. map asked_of (option_to_list d) ++ left_by (asked_by task) new) newly.is
-      ∙ ap (λ asked. asked ∷ left_by (asked_by task) new) newly.asked
-      ∙ ap (λ new. asked_by task ∷ left_by (asked_by task) new) newly.said
-      ∙ of newly.one.answer
-      ∙ ap (left_by (asked_by task)) (sym newly.was)
-]
-  where
-    of : (answer : Answer') → asked_by task ∷ left_by (asked_by task) (verdict_as answer) ≡ asked_by task ∷ []
-    of (Ok answers) = refl
-    of (Err refusal) = refl
+takes_asked task v new d turns = search arith
 
 -- ---- a request that is served
 
 -- the home has a record, or none, or is down
 module _ (task : Task) (ds : List Decided) (st : State) (new' : NotIn ds task.t) (recorded_so : (v : Verdict) → record_of st task.t ≡ Some v → Recorded ds task.t v) where
   aborted : (old : Verdict) → Recorded ds task.t old → old ≡ verdict.Aborted
-  aborted verdict.Aborted is = refl
-  aborted other is = absurd (new' is.decision is.there is.of_it)
+  aborted old h1 = search arith
 
   by_record : (outcome : Proposal) (old : Option Verdict) → record_of st task.t ≡ old
       → Turns task verdict.Aborted (recorded old (verdict_of (decision_of task outcome))) (cond (is_some (record_of st task.t)) None (decided_as (Some task) (answer_of (recorded old (verdict_of (decision_of task outcome))))))
@@ -112,43 +85,18 @@ module _ (task : Task) (ds : List Decided) (st : State) (new' : NotIn ds task.t)
     none = ap (λ r. cond (is_some r) None (decided_as (Some task) (answer_of old))) has;
     same = aborted old (recorded_so old has);
   })
-  by_record (Ok granted) None free = inr (record {
-    was = refl;
-    one = record { t = task.t; caller = task.caller; ops = task.ops; answer = Ok granted.answers };
-    is = ap (λ r. cond (is_some r) None (decided_as (Some task) (answer_of (verdict_of (decision_of task (Ok granted)))))) free;
-    asked = refl;
-    said = refl;
-  })
-  by_record (Err refusal) None free = inr (record {
-    was = refl;
-    one = record { t = task.t; caller = task.caller; ops = task.ops; answer = Err refusal };
-    is = ap (λ r. cond (is_some r) None (decided_as (Some task) (answer_of (verdict_of (decision_of task (Err refusal)))))) free;
-    asked = refl;
-    said = refl;
-  })
+  by_record (Ok granted) None free = search arith
+  by_record (Err refusal) None free = search arith
 
   pub turns_decide : (outcome : Proposal)
       → Turns task verdict.Aborted (said_by (Replied (reply_of st (request.Decide task.t (decision_of task outcome)))) verdict.Aborted)
       (decided_at (Some st) (Some task.t) (decided_as (Some task) (answer_in (reply_of st (request.Decide task.t (decision_of task outcome))))))
-  turns_decide outcome =
-      elim (st.up) as (λ b. Turns task verdict.Aborted
-      (said_by (Replied (cond b (reply.Verdict (recorded (record_of st task.t) (verdict_of (decision_of task outcome)))) reply.Down)) verdict.Aborted)
-      (decided_at (Some st) (Some task.t) (decided_as (Some task) (answer_in (cond b (reply.Verdict (recorded (record_of st task.t) (verdict_of (decision_of task outcome)))) reply.Down))))) [
-        | true ↦ by_record outcome (record_of st task.t) refl
-        | false ↦ inl (record { none = down (is_some (record_of st task.t)); same = refl })
-      ]
-    where
-      down : (b : Bool) → cond b None (decided_as (Some task) None) ≡ None
-      down true = refl
-      down false = refl
+  turns_decide outcome = search (by_record, arith)
 
 pub turns_served : (fixed : Fixed) (txn_run : TransactionRun) (ds : List Decided) (s : ℕ) (st : State) (asked : Request) (v : Verdict) → Tells v txn_run.phase → Stands ds txn_run.task.t v
     → request_in fixed txn_run.task txn_run.suites txn_run.phase ≡ Some (s, asked) → ((t : ℕ) (v : Verdict) → record_of st t ≡ Some v → Recorded ds t v) → (b : Bool) → is_decide asked ≡ b
     → Turns txn_run.task v (cond (is_decide asked) (said_by (Replied (reply_of st asked)) v) v) (decided_at (Some st) (to_decide asked) (decided_as (Some txn_run.task) (answer_in (reply_of st asked))))
-turns_served fixed txn_run ds s st asked v tells stands is recorded_so false other = inl (record {
-  none = ap (λ t. decided_at (Some st) t (decided_as (Some txn_run.task) (answer_in (reply_of st asked)))) (no_decide asked other);
-  same = ap (λ b. cond b (said_by (Replied (reply_of st asked)) v) v) other;
-})
+turns_served fixed txn_run ds s st asked v tells stands is recorded_so false other = search (no_decide, arith)
 turns_served fixed txn_run ds s st asked v tells stands is recorded_so true decide =
     let does = decides fixed txn_run.task txn_run.suites txn_run.phase s asked is decide in
     let aborted : v ≡ verdict.Aborted = subst (Tells v) does.deciding tells in
@@ -165,16 +113,9 @@ abbrev pub ended_as : ℕ → Option Ending → List (ℕ × Answer')
 ended_as t None = []
 ended_as t (Some ending) = option_to_list (option_map (λ answer. (t, answer)) (answer_by ending))
 
-ends_answered : (t : ℕ) (v : Verdict) (cause : Cause) → answers_of t v ≡ option_to_list (option_map (λ answer. (t, answer)) (answer_by (ending_by v cause)))
-ends_answered t (verdict.Answered answers) cause = refl
-ends_answered t other cause = refl
-
 pub leaves_answer : (task : Task) (v : Verdict) (after : After TransactionRun) → Leaves task v after → answers_of task.t v ≡ ended_as task.t (end_of after) ++ answered (left Running after)
-leaves_answer task v (GoesOn txn_run) leaves = sym (ap (λ v. answers_of txn_run.task.t v) (said_is v txn_run.phase leaves.1) ∙ ap (λ (task : Task). answers_of task.t v) leaves.0)
-leaves_answer task v (Ends ending) leaves =
-    ends_answered task.t v leaves.0 ∙ ap (λ ending. option_to_list (option_map (λ answer. (task.t, answer)) (answer_by ending))) (sym leaves.1) ∙ sym (append-nil (ended_as task.t (Some ending)))
+leaves_answer task v after h3 = search arith
 
 -- who is undecided after it was so before, or nobody is
 pub leaves_asked : (task : Task) (v : Verdict) (after : After TransactionRun) → Leaves task v after → (undecided (left Running after) ≡ left_by (asked_by task) v) ⊎ (left Running after ≡ None)
-leaves_asked task v (GoesOn txn_run) leaves = inl (ap (λ v. left_by (asked_by txn_run.task) v) (said_is v txn_run.phase leaves.1) ∙ ap (λ (task : Task). left_by (asked_by task) v) leaves.0)
-leaves_asked task v (Ends ending) leaves = inr refl
+leaves_asked task v after h3 = search arith

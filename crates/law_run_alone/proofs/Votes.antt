@@ -1,22 +1,17 @@
 -- All votes that a transaction goes by are valid: those of what it was told, of the hints of its agent's cache, and those that it sets.
-use Rattle.law_run_alone.proofs.Vocabulary.{unwrap_or, nat_cmp, match_ordering, is_eq, eqb-true, none-some, same_Some, insert, Configuration, IsValid, Opening, Prefix, absent_prefix, Answer, Refusal, Row, Edit, SetAcl, SetVotes, SetContent}
-use Rattle.law_run_alone.proofs.Vocabulary.{Make, touches, some, makes, sets_acl, sets_votes, changes_at, with_change, Edits, Ended, changed, seen, is_set, Known, Heard, Done, known_rows, exec_of, State, copy_of, Has, has_from, has_map}
-use Rattle.law_run_alone.proofs.Vocabulary.{has_filter, Said, newest, newer, Cache, known_of, change_of, Fixed, Task, start_from, to_widen, SetsVotes, Job, Agent, Event, Actor, server_at, actor_at, run, beginning, machine_of, server_there}
-use Rattle.law_run_alone.proofs.Vocabulary.{valid_was, CanBe, JobGivesValidVotes, AllGiveValidVotes, knowledge_was, FitsRow, AllFit, edits_fit, holds_after}
+use Rattle.law_run_alone.proofs.Vocabulary.{unwrap_or, nat_cmp, is_eq, eqb-true, none-some, same_Some, insert, Configuration, IsValid, Opening, Prefix, absent_prefix, Answer, Row, Edit, SetAcl, SetVotes, SetContent, arith, Make, touches, some}
+use Rattle.law_run_alone.proofs.Vocabulary.{sets_votes, changes_at, with_change, Edits, Ended, changed, seen, Known, Done, known_rows, exec_of, State, copy_of, Has, has_from, has_map, has_filter, Said, newest, newer, Cache, known_of, change_of}
+use Rattle.law_run_alone.proofs.Vocabulary.{Fixed, Task, start_from, to_widen, SetsVotes, Job, Agent, Event, Actor, server_at, actor_at, run, beginning, machine_of, server_there, valid_was, CanBe, JobGivesValidVotes, AllGiveValidVotes, knowledge_was}
+use Rattle.law_run_alone.proofs.Vocabulary.{FitsRow, AllFit, edits_fit, holds_after}
 use Rattle.file_exec.proofs.Leading.{changes_by_suite}
-use Rattle.std.specs.declared.cmp.Ordering.{Ordering}
 use Rattle.std.specs.Cmp.{unsigned_tied}
-use Rattle.sorted_map.specs.Laws.{insert_step}
 use Rattle.file_exec.specs.declared.changes.Change.{Change}
 use Rattle.weak_cache.specs.Cache.{hint}
 use Rattle.weak_cache.proofs.Origins.{entries_come_from_puts}
-use Rattle.std.proofs.Common.{Less, ◌≡◌, inl, inr, ⊎_elim, ℕ, Bool, true, false, cond, List, [], ◌∷◌, Option, Some, None, Ok, refl, sym, ap, subst, ◌∙◌, Equal, Greater, ◌==◌, ◌&&◌, ◌||◌, Contains, nat_lt, option_map, filter}
-use Rattle.file_exec.specs.Changes.{answered}
+use Rattle.std.proofs.Common.{◌≡◌, ⊎_elim, ℕ, Bool, true, false, cond, List, [], ◌∷◌, Option, Some, None, Ok, refl, sym, ap, subst, ◌∙◌, Equal, ◌==◌, ◌&&◌, ◌||◌, Contains, option_map, filter}
 use Rattle.suite_collect.specs.declared.told.Told.{Told}
-use Rattle.law_suite_machine.specs.Machine.{World}
 use Rattle.weak_cache.specs.Entries.{Entry}
 use Rattle.txn_core.specs.Laws.{task_of}
-use Rattle.file_exec.specs.declared.executor.Outcome.TheVariants as exec
 use Rattle.file_exec.specs.Changes as changes
 use Rattle.suite_collect.specs.declared.told.Said.TheVariants as told
 use Rattle.txn_core.specs.Agents as agents
@@ -25,12 +20,7 @@ use Rattle.txn_core.specs.Agents as agents
 
 -- the votes of a copy that a server has
 pub copy_valid : (given : Opening) (events : List Event) → CanBe given events → (s : ℕ) (st : State) → server_at (run given events) s ≡ Some st → (suite : ℕ) → IsValid (copy_of st.store suite).prefix.votes
-copy_valid given events can s st at suite =
-    let together = holds_after given events can suite in
-    let w : World = machine_of given suite events in
-    let same : w.copy s ≡ copy_of st.store suite =
-    (together.shows.at s).copy ∙ ap (λ (st : State). copy_of st.store suite) (server_there given (run given events) s st at) in
-    subst (λ copy. IsValid copy.prefix.votes) same (valid_was (beginning suite given) w (w.copy s).prefix together.inv (together.inv.stored s).0)
+copy_valid given events can s st at suite = search (holds_after given events can suite, server_there given (run given events) s st, valid_was, arith)
 
 -- the votes that a cache hints
 abbrev pub HasValidVotes : Cache → Type 0
@@ -62,12 +52,7 @@ AllSayValid [] = Unit {0}
 AllSayValid (one ∷ all) = SaysValid one.said × AllSayValid all
 
 newer_valid : (prefix : Prefix) (said : Said) → IsValid prefix.votes → SaysValid said → IsValid (newer prefix said).votes
-newer_valid prefix (told.Held other dver) valid says = of (nat_lt prefix.pver other.pver)
-  where
-    of : (b : Bool) → IsValid (cond b other prefix).votes
-    of true = says
-    of false = valid
-newer_valid prefix other valid says = valid
+newer_valid prefix said h2 h3 = search arith
 
 pub newest_valid : (start : Prefix) (all : List Told) → IsValid start.votes → AllSayValid all → IsValid (newest start all).votes
 newest_valid start [] valid says = valid
@@ -87,8 +72,7 @@ changed_valid (SetContent content) (Some row) fits valid r is = subst (λ (r : R
 changed_valid other None fits valid r is = absurd (none-some r is)
 
 the_other : (a b : Bool) → (a || b) ≡ true → a ≡ false → b ≡ true
-the_other true b is none = cc
-the_other false b is none = is
+the_other a b h2 h3 = search arith
 
 -- where an edit sets them
 set_valid : (rows : ℕ → Option Row) (edits : Edits) (suite : ℕ) → AllFit rows edits → some sets_votes edits suite ≡ true → ValidIn (seen edits suite (rows suite))
@@ -111,14 +95,7 @@ tied a b is = eqb-true a b (sym (unsigned_tied a b) ∙ ap is_eq is)
 inserted : (change : ℕ → Option Change) (all : List (ℕ × Change)) (suite : ℕ) (made : Change) → change suite ≡ Some made → ((one : ℕ × Change) → Has all one → IsOf change one)
     → (one : ℕ × Change) → Has (insert nat_cmp all suite made) one → IsOf change one
 inserted change [] suite made is each one has = ⊎_elim (λ same. subst (IsOf change) same is) (λ none. absurd none) has
-inserted change (e ∷ all) suite made is each one has =
-    of (nat_cmp suite e.0) refl (subst (λ all. Has all one) (insert_step nat_cmp e all suite made (nat_cmp suite e.0) refl) has) (λ rest. inserted change all suite made is (λ one has. each one (inr has)) one rest)
-  where
-    of : (answer : Ordering) → nat_cmp suite e.0 ≡ answer → Has (match_ordering answer ((suite, made) ∷ e ∷ all) ((e.0, made) ∷ all) (e ∷ insert nat_cmp all suite made)) one
-        → (Has (insert nat_cmp all suite made) one → IsOf change one) → IsOf change one
-    of Less at has later = ⊎_elim (λ same. subst (IsOf change) same is) (λ rest. each one rest) has
-    of Equal at has later = ⊎_elim (λ same. subst (IsOf change) same (ap change (sym (tied suite e.0 at)) ∙ is)) (λ rest. each one (inr rest)) has
-    of Greater at has later = ⊎_elim (λ same. each one (inl same)) later has
+inserted change (e ∷ all) suite made is each one has = search (tied, inserted change all suite made is, arith)
 
 pub listed : (change : ℕ → Option Change) (edits : Edits) (one : ℕ × Change) → Has (changes_at change edits) one → IsOf change one
 listed change [] one has = absurd has
@@ -135,21 +112,11 @@ record FromEdits (known : Known) (edits : Edits) (suite : ℕ) (change : Change)
   row_is : row ≡ change.row
   votes_are : some sets_votes edits suite ≡ change.votes
 
-abbrev made_of : Edits → ℕ → Row → Change
-made_of edits suite row = record { made = some makes edits suite; acl = some sets_acl edits suite; votes = some sets_votes edits suite; content = is_set edits suite; row = row }
-
 from_edits : (known : Known) (edits : Edits) (suite : ℕ) (change : Change) → changes.change_of known edits suite ≡ Some change → FromEdits known edits suite change
-from_edits known edits suite change told = of (seen edits suite (known_rows known suite)) refl told
-  where
-    of : (o : Option Row) → seen edits suite (known_rows known suite) ≡ o → option_map (made_of edits suite) o ≡ Some change → FromEdits known edits suite change
-    of None is told = absurd (none-some change told)
-    of (Some row) is told =
-        let same = same_Some (made_of edits suite row) change told in
-        record { row = row; is = is; row_is = ap (λ (change : Change). change.row) same; votes_are = ap (λ (change : Change). change.votes) same }
+from_edits known edits suite change told = search arith
 
 touched : (b : Bool) (found : Option Change) (change : Change) → cond b found None ≡ Some change → found ≡ Some change
-touched true found change is = is
-touched false found change is = absurd (none-some change is)
+touched b found change h3 = search arith
 
 module _ (fixed : Fixed) (c0 : IsValid fixed.service.c0) (before : Agent) (job : Job) (valid : JobGivesValidVotes job) (told' : List agents.Event) (suite : ℕ)
     (votes : Configuration) (sets : SetsVotes fixed before job told' suite votes) where
@@ -182,8 +149,4 @@ module _ (fixed : Fixed) (c0 : IsValid fixed.service.c0) (before : Agent) (job :
           (set_valid (known_rows known) ended.edits suite fit (from.votes_are ∙ ap (λ (change : Change). change.votes) (sym same') ∙ voted) from.row from.is)
 
   pub set_votes_valid : IsValid votes
-  set_votes_valid = of (exec_of fixed.service known task.t task.caller task.ops) refl sets.done
-    where
-      of : (heard : Heard (List Answer) Refusal) → exec_of fixed.service known task.t task.caller task.ops ≡ heard → answered known heard ≡ exec.Done sets.answers sets.changes → IsValid votes
-      of (Done (Ok ended)) is done = let same : changes.changes_of known ended.edits ≡ sets.changes = cc in by_edits ended is same
-      of other is done = cc
+  set_votes_valid = search (by_edits, arith)

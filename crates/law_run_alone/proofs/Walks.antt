@@ -1,8 +1,7 @@
 -- What holds of all servers, and of what an agent does, event by event.
-use Rattle.law_run_alone.proofs.Vocabulary.{◌≡◌, inl, inr, ⊎_elim, ℕ, ◌+◌, true, false, cond, List, Option, Some, None, refl, sym, ap, subst, ◌∙◌, ◌*◌, ◌&&◌, nat_lt, slice_get, slice_set, none-some, Opening, Request, Stamped, State}
-use Rattle.law_run_alone.proofs.Vocabulary.{reply_of, is_full, served, answer_of, Job, Response, Replied, Lacked, Fixed, Doing, Agent, fixed_of, is_idle, has_sense, max_jobs, next_of, take_in, take, begin, started, forget, Event, Begin}
-use Rattle.law_run_alone.proofs.Vocabulary.{Step, Crash, Return, Forget, Actor, World, server_at, actor_at, with_actor, serve, moved, answered, becomes, asks_at, asks, steps_once, lacks_for, lacks, operated, operates, step, begins_now}
-use Rattle.law_run_alone.proofs.Vocabulary.{same_or, at_puts, step_is, puts_in, begins_job, Lack as Why}
+use Rattle.law_run_alone.proofs.Vocabulary.{◌≡◌, inl, inr, ⊎_elim, ℕ, true, false, cond, List, Option, Some, None, refl, sym, ap, subst, ◌∙◌, slice_get, slice_set, Opening, Request, Stamped, State, arith, reply_of, is_full, served, answer_of, Job}
+use Rattle.law_run_alone.proofs.Vocabulary.{Response, Replied, Lacked, Fixed, Doing, Agent, fixed_of, next_of, take_in, take, begin, forget, Event, Begin, Step, Crash, Return, Forget, Actor, World, server_at, actor_at, with_actor, serve, moved}
+use Rattle.law_run_alone.proofs.Vocabulary.{answered, becomes, asks_at, asks, steps_once, lacks_for, lacks, operated, operates, step, begins_now, same_or, at_puts, step_is, puts_in, begins_job, Lack as Why}
 use Rattle.run_core.specs.declared.event.Event.TheVariants.{Lack}
 use Rattle.rep_core.specs.declared.request.Request.TheVariants as request
 use Rattle.rep_core.specs.declared.stamped.Lack.TheVariants as lack
@@ -55,36 +54,26 @@ module _ (fixed : Fixed) (Q : ℕ → State → Type 0) (C : ℕ → Request →
       stamped = record { stamp = actor.stamp; value = asked.1 }
 
   asks_all : (i : ℕ) (actor : Actor) (asked : ℕ × Request) → C asked.0 asked.1 → (found : Option State) → server_at world asked.0 ≡ found → AllAt Q (asks_at fixed world i actor asked found).world
-  asks_all i actor asked of_kind None at = all
-  asks_all i actor asked of_kind (Some st) at = answered_all i actor asked st of_kind at
+  asks_all i actor asked h3 found h5 = search (answered_all, arith)
 
   steps_all : (i : ℕ) → MayAsk fixed C world (Step i) → (actor : Actor) → actor_at world i ≡ Some actor → (asked : Option (ℕ × Request)) → next_of fixed actor.agent ≡ asked → AllAt Q (asks fixed world i actor asked).world
   steps_all i may actor is None next = all
   steps_all i may actor is (Some asked) next = asks_all i actor asked (may actor asked is next) (server_at world asked.0) refl
 
   step_all : (i : ℕ) → MayAsk fixed C world (Step i) → (found : Option Actor) → actor_at world i ≡ found → AllAt Q (steps_once fixed world i found).world
-  step_all i may None is = all
-  step_all i may (Some actor) is = steps_all i may actor is (next_of fixed actor.agent) refl
+  step_all i h1 found h3 = search (steps_all, arith)
 
   becomes_all : (i : ℕ) (change : Agent → Agent) (found : Option Actor) → AllAt Q (becomes world i change found).world
-  becomes_all i change None = all
-  becomes_all i change (Some actor) = all
+  becomes_all i change found = search arith
 
   lacks_all : (i : ℕ) (why : Why) (actor : Actor) (asked : Option (ℕ × Request)) → AllAt Q (lacks_for fixed world i actor (Lacked why) asked).world
-  lacks_all i why actor None = all
-  lacks_all i why actor (Some asked) = all
+  lacks_all i why actor asked = search arith
 
   lack_all : (i : ℕ) (why : Why) (found : Option Actor) → AllAt Q (lacks fixed world i (Lacked why) found).world
-  lack_all i why None = all
-  lack_all i why (Some actor) = lacks_all i why actor (next_of fixed actor.agent)
+  lack_all i why found = search (lacks_all, arith)
 
   pub asks_servers : (event : Event) → MayAsk fixed C world event → AllAt Q (step fixed world event).world
-  asks_servers (Begin i job) may = becomes_all i (λ agent. begin fixed agent job) (actor_at world i)
-  asks_servers (Step i) may = step_all i may (actor_at world i) refl
-  asks_servers (Crash server) may = operator_all server request.Crash may (server_at world server) refl
-  asks_servers (Return server) may = operator_all server request.Return may (server_at world server) refl
-  asks_servers (Forget i site) may = becomes_all i (λ agent. forget agent site) (actor_at world i)
-  asks_servers (Lack i why) may = lack_all i why (actor_at world i)
+  asks_servers event h1 = search (becomes_all, step_all, operator_all, lack_all, arith)
 
 -- the same where all requests that agents now ask are of that kind
 pub event_servers : (fixed : Fixed) (Q : State → Type 0) (C : Request → Type 0) → ((st : State) (asked : Stamped Request) → C asked.value → Q st → Q (serving.step st asked)) → C request.Crash → C request.Return → (world : World)
@@ -92,21 +81,13 @@ pub event_servers : (fixed : Fixed) (Q : State → Type 0) (C : Request → Type
 event_servers fixed Q C keeps crashes returns world may all event = asks_servers fixed (λ s. Q) (λ s. C) (λ s. keeps) world all event (of event)
   where
     of : (event : Event) → MayAsk fixed (λ s. C) world event
-    of (Step i) = may i
-    of (Crash server) = crashes
-    of (Return server) = returns
-    of other = tt
+    of event = search arith
 
 -- ---- an agent
 
 -- who begins nothing does what it did
 pub begun_same : (given : Opening) (i : ℕ) (job : Job) (actor : Actor) → with_job job (begins_now (fixed_of given) i job (Some actor)) ≡ None → (begin (fixed_of given) actor.agent job).doing ≡ actor.agent.doing
-begun_same given i job actor none =
-    elim (is_idle actor.agent.doing && has_sense (fixed_of given) job && nat_lt actor.agent.count max_jobs) as
-    (λ b. with_job job (cond b (Some (64 * actor.agent.count + i)) None) ≡ None → (cond b (record (started (fixed_of given) actor.agent job) { count = actor.agent.count + 1 }) actor.agent).doing ≡ actor.agent.doing) [
-      | true ↦ λ none. absurd (none-some (64 * actor.agent.count + i, job) (sym none))
-      | false ↦ λ _. refl
-    ] none
+begun_same given i job actor none = search arith
 
 -- it begins nothing in an event
 abbrev pub BeginsNone : Opening → ℕ → World → Event → Type 0
@@ -115,8 +96,7 @@ BeginsNone given j world other = Unit {0}
 
 -- where no job begins, no agent begins any
 pub none_begins : (given : Opening) (j : ℕ) (world : World) (event : Event) → begins_job given world event ≡ None → BeginsNone given j world event
-none_begins given j world (Begin i job) none = λ _. none
-none_begins given j world other none = tt
+none_begins given j world event h4 = search arith
 
 -- What holds of what an agent does after each response that it takes, as long as it begins nothing.
 module _ (given : Opening) (P : Option Doing → Type 0) (j : ℕ) (world : World)
@@ -136,20 +116,13 @@ module _ (given : Opening) (P : Option Doing → Type 0) (j : ℕ) (world : Worl
 
   begin_doing : (i : ℕ) (job : Job) (found : Option Actor) → actor_at world i ≡ found → (i ≡ j → with_job job (begins_now (fixed_of given) i job found) ≡ None)
       → P (doing_at (becomes world i (λ agent. begin (fixed_of given) agent job) found).world j)
-  begin_doing i job None is none = now
-  begin_doing i job (Some actor) is none = same_doing i actor (record actor { agent = begin (fixed_of given) actor.agent job }) is (λ at. begun_same given i job actor (none at))
+  begin_doing i job found h3 h4 = search (same_doing, begun_same, arith)
 
   forget_doing : (i site : ℕ) (found : Option Actor) → actor_at world i ≡ found → P (doing_at (becomes world i (λ agent. forget agent site) found).world j)
-  forget_doing i site None is = now
-  forget_doing i site (Some actor) is = same_doing i actor (record actor { agent = forget actor.agent site }) is (λ at. refl)
+  forget_doing i site found h3 = search (same_doing, arith)
 
   operator_doing : (server : ℕ) (asked : Request) (found : Option State) → P (doing_at (operates world server asked found).world j)
-  operator_doing server asked None = now
-  operator_doing server asked (Some st) =
-      elim (is_full st stamped) as (λ b. P (doing_at (operated world st (cond b None (Some (record { server = server; request = stamped; reply = answer_of st stamped })))).world j)) [ true ↦ now | false ↦ now ]
-    where
-      stamped : Stamped Request
-      stamped = record { stamp = 0; value = asked }
+  operator_doing server asked found = search arith
 
   took_doing : (servers : List State) (i : ℕ) (actor : Actor) (asked : ℕ × Request) (response : Response) (stamp : ℕ) → actor_at world i ≡ Some actor → next_of (fixed_of given) actor.agent ≡ Some asked
       → P (doing_at (with_actor i (moved actor stamp (take (fixed_of given) actor.agent response)) (record world { servers = servers })) j)

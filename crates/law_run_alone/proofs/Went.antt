@@ -1,8 +1,8 @@
 -- What an event makes of the one agent that has a job, where nothing disturbs it.
-use Rattle.law_run_alone.proofs.Vocabulary.{◌≡◌, ◌≢◌, inl, inr, ℕ, ◌+◌, Bool, true, false, cond, List, Option, Some, None, refl, sym, ap, subst, ◌∙◌, ◌*◌, ◌&&◌, not, is_some, nat_lt, slice_get, slice_set, false≢true, none-some, same_Some}
-use Rattle.law_run_alone.proofs.Vocabulary.{Opening, Request, Stamped, State, reply_of, is_full, served, answer_of, Job, Replied, Lacked, Fixed, Doing, Agent, fixed_of, is_idle, has_sense, max_jobs, next_in, next_of, take, begin, started}
-use Rattle.law_run_alone.proofs.Vocabulary.{forget, Event, Begin, Step, Crash, Return, Forget, Served, EndedJob, Actor, World, Stepped, quiet, server_at, actor_at, has_no_job, with_actor, moved, outcome_of, answered, becomes, asks_at, asks}
-use Rattle.law_run_alone.proofs.Vocabulary.{steps_once, lacks_for, lacks, operated, operates, step, Decided, begins_now, same_or, Holds, puts_in, begins_job, disturbs, Lack as Why}
+use Rattle.law_run_alone.proofs.Vocabulary.{◌≡◌, ◌≢◌, inl, inr, ℕ, ◌+◌, Bool, true, false, cond, List, Option, Some, None, refl, sym, ap, subst, ◌∙◌, ◌*◌, ◌&&◌, not, is_some, nat_lt, slice_get, slice_set, false≢true, none-some, same_Some, arith}
+use Rattle.law_run_alone.proofs.Vocabulary.{Opening, Request, Stamped, State, reply_of, is_full, served, answer_of, Job, Replied, Fixed, Doing, Agent, fixed_of, is_idle, has_sense, max_jobs, next_in, next_of, take, begin, started, forget, Event}
+use Rattle.law_run_alone.proofs.Vocabulary.{Begin, Step, Crash, Return, Forget, Served, EndedJob, Actor, World, Stepped, quiet, server_at, actor_at, has_no_job, with_actor, moved, outcome_of, answered, becomes, asks_at, asks, steps_once, operates}
+use Rattle.law_run_alone.proofs.Vocabulary.{step, Decided, begins_now, same_or, Holds, puts_in, begins_job, disturbs, Lack as Why}
 use Rattle.run_core.specs.declared.event.Event.TheVariants.{Lack}
 use Rattle.rep_core.specs.declared.request.Request.TheVariants as request
 use Rattle.law_run_alone.proofs.Turns.{with_job}
@@ -16,14 +16,11 @@ pub data Went (fixed : Fixed) (world : World) (turn : ℕ) (old : Actor) (new : 
       → new ≡ (take fixed old.agent (Replied (reply_of st asked.1))).agent → outcome ≡ outcome_of turn old (take fixed old.agent (Replied (reply_of st asked.1))).ending → Went fixed world turn old new outcome
 
 disturbed : (idle some : Bool) → idle ≡ false → some ≡ false → (not idle && not some) ≡ false → ⊥
-disturbed true some is none calm = false≢true (sym is)
-disturbed false true is none calm = false≢true (sym none)
-disturbed false false is none calm = false≢true (sym calm)
+disturbed idle some h2 h3 h4 = search arith
 
 -- who asks something has a job
 pub busy : (fixed : Fixed) (doing : Option Doing) (asked : ℕ × Request) → next_in fixed doing ≡ Some asked → is_idle doing ≡ false
-busy fixed None asked is = absurd (none-some asked is)
-busy fixed (Some doing) asked is = refl
+busy fixed doing asked h3 = search arith
 
 module _ (given : Opening) (t turn : ℕ) (world : World) (ds : List Decided) (past : List EndedJob) (holds : Holds (fixed_of given) world ds past) (clear : Clear world t turn) (old : Actor) (there : actor_at world turn ≡ Some old) where
   abbrev fixed : Fixed
@@ -63,26 +60,13 @@ module _ (given : Opening) (t turn : ℕ) (world : World) (ds : List Decided) (p
   forget_moves i site (Some actor) is = put world.servers i actor (record actor { agent = forget actor.agent site }) None None is (λ at. Forgot site refl refl) (λ _. refl)
 
   operator_moves : (server : ℕ) (asked : Request) (found : Option State) → Moves (operates world server asked found)
-  operator_moves server asked None = still
-  operator_moves server asked (Some st) =
-      elim (is_full st stamped) as (λ b. Moves (operated world st (cond b None (Some (record { server = server; request = stamped; reply = answer_of st stamped }))))) [
-        | true ↦ still
-        | false ↦ (old, there, Stayed refl refl)
-      ]
-    where
-      stamped : Stamped Request
-      stamped = record { stamp = 0; value = asked }
+  operator_moves server asked found = search (still, arith)
 
   -- a step, where the server is there
   stepped : (i : ℕ) (actor : Actor) (asked : ℕ × Request) (st : State) → actor_at world i ≡ Some actor → next_of fixed actor.agent ≡ Some asked → server_at world asked.0 ≡ Some st
       → let stamped : Stamped Request = record { stamp = actor.stamp; value = asked.1 } in
       (b : Bool) → is_full st stamped ≡ b → step fixed world (Step i) ≡ answered fixed world i actor st (cond b None (Some (record { server = asked.0; request = stamped; reply = answer_of st stamped })))
-  stepped i actor asked st is next at b full =
-      let stamped : Stamped Request = record { stamp = actor.stamp; value = asked.1 } in
-      ap (steps_once fixed world i) is
-      ∙ ap (asks fixed world i actor) next
-      ∙ ap (asks_at fixed world i actor asked) at
-      ∙ ap (λ b. answered fixed world i actor st (cond b None (Some (record { server = asked.0; request = stamped; reply = answer_of st stamped })))) full
+  stepped i actor asked st is next at b full = search arith
 
   step_moves : (i : ℕ) → disturbs given world (Step i) ≡ false → Moves (step fixed world (Step i))
   step_moves i calm = of (actor_at world i) refl
@@ -117,15 +101,7 @@ module _ (given : Opening) (t turn : ℕ) (world : World) (ds : List Decided) (p
       of (Some actor) is = asking actor is (next_of fixed actor.agent) refl
 
   lack_moves : (i : ℕ) (why : Why) → disturbs given world (Lack i why) ≡ false → Moves (step fixed world (Lack i why))
-  lack_moves i why calm = of (actor_at world i) refl
-    where
-      asking : (actor : Actor) → actor_at world i ≡ Some actor → (asked : Option (ℕ × Request)) → next_of fixed actor.agent ≡ asked → Moves (step fixed world (Lack i why))
-      asking actor is None next = subst Moves (sym (ap (lacks fixed world i (Lacked why)) is ∙ ap (lacks_for fixed world i actor (Lacked why)) next)) still
-      asking actor is (Some asked) next = absurd (false≢true (sym calm ∙ ap not (ap has_no_job is ∙ busy fixed actor.agent.doing asked next)))
-
-      of : (found : Option Actor) → actor_at world i ≡ found → Moves (step fixed world (Lack i why))
-      of None is = subst Moves (sym (ap (lacks fixed world i (Lacked why)) is)) still
-      of (Some actor) is = asking actor is (next_of fixed actor.agent) refl
+  lack_moves i why calm = search (still, false≢true, busy, arith)
 
   -- every event that disturbs nothing, and begins nothing
   pub event_moves : (event : Event) → disturbs given world event ≡ false → begins_job given world event ≡ None → Moves (step fixed world event)

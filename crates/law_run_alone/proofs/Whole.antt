@@ -1,6 +1,6 @@
 -- What holds of a run and of the machine of each suite, event by event, as long as there are events to come that there can be.
-use Rattle.law_run_alone.proofs.Vocabulary.{inl, ℕ, List, [], ◌∷◌, ◌++◌, refl, sym, subst, AllByRecursion, IsValid, Opening, Agent, fixed_of, Event, step, after, run, decided, row, beginning, machine_from, machine_of, Owed, AreOwed}
-use Rattle.law_run_alone.proofs.Vocabulary.{event_log, EventGivesValidVotes, CanBe, AllValid, ValidOr, event_valid, Together, opens, goes_on, HoldsItsKind, opens_kind, kind_after, agents_owe}
+use Rattle.law_run_alone.proofs.Vocabulary.{inl, ℕ, List, [], ◌∷◌, ◌++◌, refl, sym, subst, AllByRecursion, IsValid, Opening, Agent, fixed_of, Event, step, after, run, row, beginning, machine_from, machine_of, Owed, AreOwed, arith, event_log}
+use Rattle.law_run_alone.proofs.Vocabulary.{EventGivesValidVotes, CanBe, AllValid, ValidOr, event_valid, Together, opens, goes_on, HoldsItsKind, opens_kind, kind_after, agents_owe}
 use Rattle.law_suite_machine.specs.Machine.{begun, World}
 use Rattle.law_run_machine.proofs.Kept.{actor_opens}
 use Rattle.law_run_machine.specs.Machines.{moved}
@@ -15,14 +15,7 @@ pub record Whole (given : Opening) (z : ℕ) (w : World) (world : worlds.World) 
 
 whole_next : (given : Opening) → IsValid given.c0 → (z : ℕ) (w : World) (world : worlds.World) → Whole given z w world → AllValid (fixed_of given) world → (event : Event) → Owed given z w world
     → Whole given z (moved given z w world event) (step (fixed_of given) world event).world
-whole_next given c0 z w world now all event owed =
-    let later = (goes_on given z w world now.together event owed).1 in
-    let log = event_log given z w world now.together.shows event in
-    record {
-      together = later;
-      kind = kind_after given z w now.together.inv c0 now.kind world all event (decided (fixed_of given) world event) (moved given z w world event).log log later.inv.logged.plain;
-      grown = grown_after given z w now.together.inv c0 now.kind now.grown world all event (decided (fixed_of given) world event) (moved given z w world event).log log later.inv.logged.plain later.inv.once;
-    }
+whole_next given c0 z w world now all event owed = search (goes_on given z w world now.together event owed, event_log given z w world now.together.shows event, kind_after, grown_after, arith)
 
 -- of all suites, each with its machine, where these events are to come
 pub record Carried (given : Opening) (machines : ℕ → World) (world : worlds.World) (events : List Event) : Type 0 where
@@ -37,20 +30,11 @@ next_machines given machines world event z = moved given z (machines z) world ev
 
 pub carried_next : (given : Opening) → IsValid given.c0 → (machines : ℕ → World) (world : worlds.World) (event : Event) (events : List Event) → Carried given machines world (event ∷ events)
     → Carried given (next_machines given machines world event) (step (fixed_of given) world event).world events
-carried_next given c0 machines world event events now = record {
-  whole = λ z. whole_next given c0 z (machines z) world (now.whole z) now.valid event (now.owes z).0;
-  valid = event_valid (fixed_of given) world now.valid event now.votes.0;
-  owes = λ z. (now.owes z).1;
-  votes = now.votes.1;
-}
+carried_next given c0 machines world event events now = search (whole_next, event_valid, arith)
 
 opens_carried : (given : Opening) (events : List Event) → CanBe given events → Carried given (λ z. begun (beginning z given)) (worlds.opening given) events
 opens_carried given events can = record {
-  whole = λ z. record {
-    together = opens given z can.c0 can.accepted.some_agents.1 can.accepted.some_servers.1;
-    kind = opens_kind given z;
-    grown = opens_grown given z;
-  };
+  whole = search (opens, opens_kind, opens_grown, arith);
   valid = λ n actor there. subst (λ (agent : Agent). ValidOr (fixed_of given) agent) (sym (actor_opens 0 given.agents n actor there).1) (inl refl);
   owes = agents_owe given events can;
   votes = can.votes;

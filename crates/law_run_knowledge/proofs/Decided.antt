@@ -1,5 +1,5 @@
 -- What a transaction knows of a suite, from what its agent holds.
-use Rattle.law_run_knowledge.proofs.Vocabulary.{◌≡◌, ℕ, Some, refl, sym, subst, ◌∙◌, same_Some, Content, newest, ReadPoint, GatheredSuite, suite_of, TransactionRun, Running, Agent, Beginning, WasPrefix, GoesWith, World, Inv, SuiteWas}
+use Rattle.law_run_knowledge.proofs.Vocabulary.{◌≡◌, ℕ, Some, refl, subst, Content, newest, ReadPoint, GatheredSuite, suite_of, TransactionRun, Running, Agent, Beginning, WasPrefix, GoesWith, World, Inv, SuiteWas, arith}
 use Rattle.law_suite_machine.proofs.Conclusions.{copies_were}
 use Rattle.law_run_knowledge.proofs.Showed.{newest_was}
 use Rattle.law_run_knowledge.proofs.Lasting.{DoingFits, AgentFits}
@@ -18,9 +18,7 @@ module _ (z : ℕ) (start : Beginning) (w : World) where
 
     -- and the content goes with it
     pub known_content : (first : ReadPoint) → suite.first ≡ Some first → (content : Content) → suite.content ≡ Some content → GoesWith start w.log first.prefix first.dver content
-    known_content first had content is =
-        let known = was.content content is in
-        subst (λ (first : ReadPoint). GoesWith start w.log first.prefix first.dver content) (same_Some known.0 first (sym known.1 ∙ had)) known.2
+    known_content first had content is = search arith
 
     -- and so was the newest prefix that it was told by now, under which exclusive votes are counted
     pub newest_prefix : Inv start w → WasPrefix start w.log (newest suite.collector.start suite.collector.told)

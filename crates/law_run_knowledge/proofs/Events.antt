@@ -1,9 +1,8 @@
 -- What agents keep and hold of a suite was its register's: event by event.
-use Rattle.law_run_knowledge.proofs.Vocabulary.{◌≡◌, ◌⊎◌, inl, inr, ℕ, zero, suc, ◌+◌, Bool, true, false, cond, List, [], ◌∷◌, ◌++◌, Option, Some, None, refl, sym, ap, subst, ◌∙◌, ◌*◌, ◌&&◌, nat_lt, slice_get, slice_set, Contains, nat_cmp}
-use Rattle.law_run_knowledge.proofs.Vocabulary.{same_Some, none-some, IsOrdered, Request, Reply, absent_prefix, Prefix, Entry, ReadPoint, GatheredSuite, Suites, suite_of, Response, Replied, Lacked, Fixed, Task, Granted, Phase, Gathering}
-use Rattle.law_run_knowledge.proofs.Vocabulary.{Fetching, Widening, Preparing, Deciding, Finishing, TransactionRun, SweepRun, Doing, Running, RunningSweep, After, GoesOn, Ends, Agent, fixed_of, next_in, next_of, left, take_in, take, begin}
-use Rattle.law_run_knowledge.proofs.Vocabulary.{started, forget, is_idle, has_sense, max_jobs, Beginning, WasPrefix, GoesWith, World, set1, begun, Event, run, Obeys, Inv, moves, beginning, ToldVersion, SuiteWas, DoingWas, AllWere}
-use Rattle.law_run_knowledge.proofs.Vocabulary.{entries_come_from_puts, has_from, Lack as Why}
+use Rattle.law_run_knowledge.proofs.Vocabulary.{◌≡◌, ◌⊎◌, inl, inr, ℕ, zero, suc, ◌+◌, Bool, true, false, cond, List, [], ◌∷◌, ◌++◌, Option, Some, None, refl, sym, ap, subst, ◌∙◌, ◌*◌, ◌&&◌, nat_lt, slice_get, slice_set, nat_cmp, arith, same_Some}
+use Rattle.law_run_knowledge.proofs.Vocabulary.{none-some, IsOrdered, Request, Reply, absent_prefix, Prefix, ReadPoint, GatheredSuite, Suites, suite_of, Response, Replied, Lacked, Fixed, Task, Granted, Phase, Gathering, Fetching, Widening, Preparing}
+use Rattle.law_run_knowledge.proofs.Vocabulary.{Deciding, Finishing, TransactionRun, SweepRun, Doing, Running, RunningSweep, After, GoesOn, Ends, Agent, fixed_of, next_in, next_of, left, take_in, take, begin, started, forget, is_idle, has_sense}
+use Rattle.law_run_knowledge.proofs.Vocabulary.{max_jobs, Beginning, WasPrefix, GoesWith, World, set1, begun, Event, run, Obeys, Inv, moves, beginning, ToldVersion, SuiteWas, DoingWas, AllWere, entries_come_from_puts, has_from, Lack as Why}
 use Rattle.suite_prefix.specs.SettingsRules.{Opening}
 use Rattle.rep_core.specs.declared.stamped.Stamped.{Stamped}
 use Rattle.rep_core.specs.State.{State}
@@ -13,8 +12,8 @@ use Rattle.txn_core.specs.declared.job.Job.{Job}
 use Rattle.txn_core.specs.declared.job.Job.TheVariants.{Transaction, Sweep}
 use Rattle.txn_core.specs.Transactions.{Step, execute, after_response, request_of, request_in, asked_for, said_to}
 use Rattle.txn_core.proofs.Causes.{Stands}
-use Rattle.txn_core.specs.Laws.{Exchange, of_job}
-use Rattle.txn_core.proofs.Upheld.{Started, Begins, Runs, DoingStands, stands_after}
+use Rattle.txn_core.specs.Laws.{Exchange}
+use Rattle.txn_core.proofs.Upheld.{stands_after}
 use Rattle.run_core.specs.declared.event.Event.TheVariants.{Begin, Crash, Return, Forget, Step as Steps, Lack}
 use Rattle.run_core.specs.Worlds.{Actor, server_at, actor_at, with_server, answered, asks_at, asks, steps_once, lacks_for, lacks, operated, operates, becomes, step, actors_from}
 use Rattle.law_suite_machine.proofs.Steps.{all_steps}
@@ -78,12 +77,7 @@ stands_narrow fixed task Old Now Loose past suites (Finishing servers v ending) 
 pub narrow_of : (fixed : Fixed) (agent : Agent) → IdleOr fixed agent → (txn_run : TransactionRun) → agent.doing ≡ Some (Running txn_run) → (asked : ℕ × Request)
     → request_of fixed txn_run ≡ Some asked → (number : ℕ) → Hears txn_run.phase number → (suite : GatheredSuite)
     → suite_of txn_run.suites number ≡ Some suite → IsNarrow suite
-narrow_of fixed agent (inl idle) txn_run running asked is number hears suite there none = absurd (let busy : is_idle (Some (Running txn_run)) ≡ true = ap is_idle (sym running) ∙ idle in cc)
-narrow_of fixed agent (inr job) txn_run running asked is number hears suite there none =
-    let runs' : Runs fixed job.before job.job job.told txn_run =
-    subst (DoingStands fixed job.before job.job job.told) (ap (λ (agent : Agent). agent.doing) (sym job.is) ∙ running) (stands_after fixed job.before job.job job.told job.idle) in
-    stands_narrow fixed txn_run.task (Started fixed job.before job.job job.told) (Started fixed job.before job.job job.told) (Begins fixed job.before job.job job.told)
-    (of_job fixed job.before job.job job.told) txn_run.suites txn_run.phase number hears (runs'.stands asked is) suite there none
+narrow_of fixed agent h2 txn_run h4 asked h6 number h8 suite h10 h11 = search (stands_after, stands_narrow, arith)
 
 -- ---- a response
 
@@ -100,8 +94,7 @@ module _ (start : Beginning) (z : ℕ) (w : World) (inv : Inv start w) (fixed : 
       of (Ends ending) fits = tt
 
   round_fits : (after : After SweepRun) → DoingFits z start w (left RunningSweep after)
-  round_fits (GoesOn sweep_run) = tt
-  round_fits (Ends ending) = tt
+  round_fits after = search arith
 
   -- what a response is to the suite, where it is of a transaction
   abbrev SaysDoing : Option Doing → ℕ × Request → Response → Type 0
@@ -119,8 +112,7 @@ module _ (start : Beginning) (z : ℕ) (w : World) (inv : Inv start w) (fixed : 
   take_fits agent response None asked was is says fits = fits
 
   pub taken_fits : (agent : Agent) (response : Response) (asked : ℕ × Request) → next_of fixed agent ≡ Some asked → SaysDoing agent.doing asked response → AgentFits z start w agent → AgentFits z start w (take fixed agent response).agent
-  taken_fits agent response asked is says fits =
-      subst (λ o. AgentFits z start w (take_in fixed agent response agent.doing o).agent) (sym is) (take_fits agent response agent.doing asked refl is says fits)
+  taken_fits agent response asked is says fits = search (take_fits, arith)
 
   -- ---- a job that begins
 
@@ -151,8 +143,7 @@ AllFit z start w world = (number : ℕ) (actor : Actor) → actor_at world numbe
 
 gathers_for : (fixed : Fixed) (task : Task) (suites : Suites) (phase : Phase) (number server : ℕ) (asked : Request) → Hears phase number
     → request_in fixed task suites phase ≡ Some (server, asked) → asked_for task number (suite_of suites number) ≡ Some (server, asked)
-gathers_for fixed task suites phase number server asked (inl same) is = ap (request_in fixed task suites) (sym same) ∙ is
-gathers_for fixed task suites phase number server asked (inr widens) is = ap (request_in fixed task suites) (sym widens.2) ∙ is
+gathers_for fixed task suites phase number server asked h7 h8 = search arith
 
 module _ (given : Opening) (z : ℕ) (w : World) (world : worlds.World) (inv : Inv (beginning z given) w) (shows : Shows z (home_in given) (servers_of given world) w)
     (all : AllConsistent (servers_of given world)) (jobs : All (fixed_of given) world) where
@@ -365,10 +356,7 @@ fit_from given z w world (event ∷ events) inv shows all jobs fits keep =
 
 actor_fits : (z : ℕ) (begin' : Beginning) (w : World) (from count n : ℕ) (actor : Actor) → slice_get (actors_from from count) n ≡ Some actor → AgentFits z begin' w actor.agent
 actor_fits z begin' w from zero n actor is = absurd (none-some actor is)
-actor_fits z begin' w from (suc count) zero actor is = subst (λ (actor : Actor). AgentFits z begin' w actor.agent) (same_Some _ actor is) (record { cache = λ entry there. absurd (let none = entries_in_none there in none); doing = tt })
-  where
-    entries_in_none : {entry : Entry} → Contains [] entry → ⊥
-    entries_in_none {entry} there = has_from [] entry there
+actor_fits z begin' w from (suc count) zero actor is = search (same_Some, has_from, arith)
 actor_fits z begin' w from (suc count) (suc n) actor is = actor_fits z begin' w (from + 1) count n actor is
 
 pub opens_fit : (z : ℕ) (given : Opening) → AllFit z (beginning z given) (begun (beginning z given)) (worlds.opening given)
@@ -383,12 +371,7 @@ were_of z begin' w world fits n actor there = let it = fits n actor there in rec
     of None fits = tt
 
 pub knowledge_was : KnowledgeWas
-knowledge_was given z events valid keep =
-    let first = opening_shows z (home_in given) given valid in
-    were_of z (beginning z given) (machine_of given z events) (runs.run given events)
-    (fit_from given z (begun (beginning z given)) (worlds.opening given) events (begins (beginning z given) first.0)
-    (subst (λ servers. Shows z (home_in given) servers (begun (beginning z given))) (sym (servers_open given)) first.1)
-    (opening_consistent given) (λ n actor. opens (fixed_of given) 0 given.agents n actor) (opens_fit z given) keep)
+knowledge_was given z events valid keep = search (opening_shows z (home_in given) given valid, servers_open given, opening_consistent given, opens_fit z given, were_of, fit_from, begins, opens, arith)
 
 pub known_was : KnownWas
 known_was given z events number actor txn_run suite first valid keep there running found had =

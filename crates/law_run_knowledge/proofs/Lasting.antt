@@ -1,7 +1,6 @@
 -- What was so stays so: whatever happens to a suite, what an agent keeps and holds of it was still its register's.
-use Rattle.law_run_knowledge.proofs.Vocabulary.{◌≡◌, inl, inr, ℕ, true, List, [], ◌∷◌, Option, Some, None, refl, sym, ap, ◌∙◌, nat_cmp, none-some, IsOrdered, Content, Prefix, Replica, Said, Cache, GatheredSuite, Suites, Doing, Running}
-use Rattle.law_run_knowledge.proofs.Vocabulary.{RunningSweep, Agent, Each, Beginning, GoesWith, Told, World, Event, Held, Upgrade, happens, upgraded_told, run, May, Obeys, Stays, at2, Inv, told_to, ToldOf, SaidIs, AreTold, CacheWas}
-use Rattle.law_run_knowledge.proofs.Vocabulary.{ToldVersion, SuiteWas}
+use Rattle.law_run_knowledge.proofs.Vocabulary.{◌≡◌, ℕ, true, List, [], ◌∷◌, Option, Some, None, refl, sym, ap, ◌∙◌, nat_cmp, none-some, IsOrdered, Content, Prefix, Said, Cache, GatheredSuite, Suites, Doing, Running, arith, RunningSweep, Agent, Each}
+use Rattle.law_run_knowledge.proofs.Vocabulary.{Beginning, GoesWith, Told, World, Event, Held, Upgrade, happens, upgraded_told, run, May, Obeys, Stays, at2, Inv, told_to, SaidIs, AreTold, CacheWas, ToldVersion, SuiteWas}
 use Rattle.law_suite_machine.proofs.Lasting.{run_stays}
 use Rattle.suite_collect.specs.declared.told.Said.TheVariants as said
 use Rattle.suite_collect.specs.declared.told.Told as collect
@@ -55,27 +54,19 @@ pub record AgentFits (z : ℕ) (start : Beginning) (w : World) (agent : Agent) :
   pub doing : DoingFits z start w agent.doing
 
 module _ (z : ℕ) (start : Beginning) (w later : World) (l : Lasts start w later) where
-  pub told_later : (t i : ℕ) (prefix : Prefix) (dver : ℕ) → ToldOf (w.told i t) prefix dver → ToldOf (later.told i t) prefix dver
-  told_later t i prefix dver was =
-      let still = l.told i t was.one was.is in
-      record { one = still.0; is = still.1; prefix_is = ap (λ (copy : Replica). copy.prefix) still.2 ∙ was.prefix_is; dver_is = ap (λ (copy : Replica). copy.dver) still.2 ∙ was.dver_is }
 
   version_later : (t i dver : ℕ) → ToldVersion w t i dver → ToldVersion later t i dver
-  version_later t i dver was =
-      let still = l.told i t was.told was.is in
-      record { told = still.0; is = still.1; dver_is = ap (λ (copy : Replica). copy.dver) still.2 ∙ was.dver_is }
+  version_later t i dver was = search arith
 
   pub said_later : (t i : ℕ) (said : Said) → SaidIs (w.told i t) said → SaidIs (later.told i t) said
-  said_later t i (said.Held prefix dver) was = told_later t i prefix dver was
-  said_later t i _ was = tt
+  said_later t i said h3 = search arith
 
   are_later : (t : ℕ) (told : List collect.Told) → AreTold (told_to w t) told → AreTold (told_to later t) told
   are_later t [] are = tt
   are_later t (one ∷ told) are = (said_later t one.server one.said are.0, are_later t told are.1)
 
   goes_later : (prefix : Prefix) (dver : ℕ) (content : Content) → GoesWith start w.log prefix dver content → GoesWith start later.log prefix dver content
-  goes_later prefix dver content (inl was) = inl (l.stays.contents dver content was)
-  goes_later prefix dver content (inr none) = inr none
+  goes_later prefix dver content h3 = search arith
 
   suite_later : (t : ℕ) (suite : GatheredSuite) → SuiteWas start w t suite → SuiteWas start later t suite
   suite_later t suite was = record {

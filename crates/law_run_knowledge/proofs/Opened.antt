@@ -1,6 +1,6 @@
 -- A content that may be had without asking is never fetched.
-use Rattle.law_run_knowledge.proofs.Vocabulary.{◌≡◌, ℕ, zero, suc, ◌+◌, ◌<◌, ◌≤◌, Bool, true, false, cond, [], ◌∷◌, Option, Some, None, refl, sym, ap, subst, ◌∙◌, arith, Equal, Greater, ◌==◌, length, is_some, nat_cmp, is_eq, eq-eqb}
-use Rattle.law_run_knowledge.proofs.Vocabulary.{false≢true, nat_cmp_total, same_Some, none-some, IsOrdered, Content, empty_content, held_by, content_at, Know, ReadPoint, GatheredSuite, Suites, suite_of, with_suite, known_of, Fixed, Task}
+use Rattle.law_run_knowledge.proofs.Vocabulary.{◌≡◌, ℕ, zero, suc, ◌+◌, ◌<◌, ◌≤◌, false, cond, [], ◌∷◌, Option, Some, None, refl, sym, ap, subst, ◌∙◌, arith, Equal, Greater, ◌==◌, length, is_some, nat_cmp, is_eq, nat_cmp_total, same_Some, none-some}
+use Rattle.law_run_knowledge.proofs.Vocabulary.{IsOrdered, Content, Know, ReadPoint, GatheredSuite, Suites, suite_of, with_suite, known_of, Fixed, Task}
 use Rattle.std.specs.BTreeMap.{is_at}
 use Rattle.std.specs.Map.{keys_of}
 use Rattle.std.proofs.lemmas.Map.Entries.{lookup_head, lookup_tail}
@@ -23,20 +23,14 @@ closed (one ∷ suites) = cond (is_some one.1.content) 0 1 + closed suites
 
 few_closed : (suites : Suites) → closed suites ≤ length suites
 few_closed [] = omega arith
-few_closed (one ∷ suites) =
-    let rest = few_closed suites in
-    elim (is_some one.1.content) as (λ b. cond b 0 1 + closed suites ≤ length (one ∷ suites)) [ true ↦ omega (arith, rest) | false ↦ omega (arith, rest) ]
+few_closed (one ∷ suites) = search (few_closed suites, arith)
 
 one_closed : (suite : GatheredSuite) → is_some suite.content ≡ false → ◌≡◌ {A = ℕ} (cond (is_some suite.content) 0 1) 1
 one_closed suite none = ap (λ b. cond b 0 1) none
 
 some_closed : (suites : Suites) (number : ℕ) (suite : GatheredSuite) → suite_of suites number ≡ Some suite → is_some suite.content ≡ false → 1 ≤ closed suites
 some_closed [] number suite there none = cc
-some_closed (e ∷ es) number suite there none =
-    elim (is_at (nat_cmp number) e.0) as (λ b. cond b (Some e.1) (suite_of es number) ≡ Some suite → 1 ≤ closed (e ∷ es)) [
-      | true ↦ λ same. let one = one_closed e.1 (ap (λ (suite : GatheredSuite). is_some suite.content) (same_Some e.1 suite same) ∙ none) in omega (arith, one)
-      | false ↦ λ rest. let more = some_closed es number suite rest none in omega (arith, more)
-    ] there
+some_closed (e ∷ es) number suite there none = search (one_closed, same_Some, some_closed es number suite, arith)
 
 -- one of them is opened
 opens_one : (suites : Suites) (number : ℕ) (suite : GatheredSuite) (content : Content) → IsOrdered nat_cmp suites → suite_of suites number ≡ Some suite → is_some suite.content ≡ false
@@ -114,28 +108,17 @@ all_opened (suc n) fixed task all ordered few = of (open_needed task all (heard_
     of : (found : Option Gathered) → open_needed task all (heard_on fixed task all.suites) ≡ found
         → ((more : Gathered) → IsOrdered nat_cmp more.suites → closed more.suites ≤ n → IsAsked fixed task (opened n fixed task more))
         → IsAsked fixed task (or_all all found (λ all. opened n fixed task all))
-    of (Some more) is later = let one = opens_more fixed task all ordered (heard_on fixed task all.suites) more refl is in later more one.ordered (let fewer = one.fewer in omega (arith, fewer, few))
-    of None is later = λ number needs. sym (ap (open_needed task all) needs) ∙ is
+    of found h1 h2 = search (opens_more, arith)
 
 -- ---- what is fetched
 
 above_zero : (n : ℕ) → (n == 0) ≡ false → 0 < n
-above_zero zero is = absurd (false≢true (sym is ∙ eq-eqb 0 0 refl))
-above_zero (suc n) is = omega arith
+above_zero n h1 = search arith
 
 not_free : (task : Task) (all : Gathered) (number : ℕ) (suite : GatheredSuite) (first : ReadPoint) → open_first task all number suite (Some first) ≡ None → 0 < first.dver
-not_free task all number suite first is = above_zero first.dver (of (first.dver == 0) is)
-  where
-    of : (b : Bool) → opened_with task all number suite first (cond b (Some (empty_content (held_by first.prefix.kind))) (content_at all.cache task.site number first.dver)) ≡ None → b ≡ false
-    of true is = cc
-    of false is = refl
+not_free task all number suite first is = search arith
 
 -- a suite whose content is fetched has one of a version above 0
 pub fetched_above : (fixed : Fixed) (task : Task) (all : Gathered) → IsOrdered nat_cmp all.suites → let open' = opened (length all.suites) fixed task all in
     (number : ℕ) → heard_on fixed task open'.suites ≡ exec.Need (Know number) → (suite : GatheredSuite) (first : ReadPoint) → suite_of open'.suites number ≡ Some suite → suite.first ≡ Some first → 0 < first.dver
-fetched_above fixed task all ordered number needs suite first there was =
-    let open' = opened (length all.suites) fixed task all in
-    not_free task open' number suite first
-    (ap (open_first task open' number suite) (sym was)
-    ∙ ap (open_suite task open' number) (sym there)
-    ∙ all_opened (length all.suites) fixed task all ordered (few_closed all.suites) number needs)
+fetched_above fixed task all ordered number needs suite first there was = search (all_opened (length all.suites) fixed task all ordered (few_closed all.suites) number needs, few_closed all.suites, not_free, arith)

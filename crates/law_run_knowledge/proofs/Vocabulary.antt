@@ -1,6 +1,6 @@
 -- The names that the proofs of this crate take from elsewhere, each with one meaning here.
-pub use Rattle.std.proofs.Common.{Bool, Contains, Equal, Err, Greater, List, None, Ok, Option, Some, [], ap, arith, cond, false, find, inl, inr, is_some, length, nat_lt, refl, slice_get, slice_set, subst, suc, sym, true, zero, ℕ, ◌&&◌, ◌*◌}
-pub use Rattle.std.proofs.Common.{◌++◌, ◌+◌, ◌<◌, ◌==◌, ◌∙◌, ◌∷◌, ◌≡◌, ◌≤◌, ◌⊎◌}
+pub use Rattle.std.proofs.Common.{Bool, Equal, Err, Greater, List, None, Ok, Option, Some, [], ap, arith, cond, false, find, inl, inr, is_some, length, nat_lt, refl, slice_get, slice_set, subst, suc, sym, true, zero, ℕ, ◌&&◌, ◌*◌, ◌++◌, ◌+◌, ◌<◌}
+pub use Rattle.std.proofs.Common.{◌==◌, ◌∙◌, ◌∷◌, ◌≡◌, ◌≤◌, ◌⊎◌}
 pub use Rattle.std.proofs.lemmas.Bool.{and_parts, cases_lt, eq-eqb, eqb-true, false≢true}
 pub use Rattle.std.proofs.lemmas.Cmp.{nat_cmp_total}
 pub use Rattle.std.proofs.lemmas.Option.{none-some, same_Some}
@@ -21,17 +21,15 @@ pub use Rattle.rep_core.specs.declared.request.Request.{Request}
 pub use Rattle.rep_core.specs.declared.stamped.Lack.{Lack}
 pub use Rattle.sorted_map.specs.SortedMap.{IsOrdered}
 pub use Rattle.suite_collect.proofs.Collected.{gives_of}
-pub use Rattle.suite_collect.specs.Telling.{greatest, holds, newer, newest, shown, version_in}
+pub use Rattle.suite_collect.specs.Telling.{greatest, newer, newest, shown}
 pub use Rattle.suite_collect.specs.declared.told.Said.{Said}
-pub use Rattle.suite_content.specs.Contents.{empty_content}
 pub use Rattle.suite_content.specs.declared.content.Content.{Content}
 pub use Rattle.suite_prefix.specs.Absent.{absent_prefix}
-pub use Rattle.suite_prefix.specs.Copies.{held_by}
 pub use Rattle.suite_prefix.specs.declared.copies.Prefix.{Prefix}
 pub use Rattle.suite_prefix.specs.declared.copies.Replica.{Replica}
 pub use Rattle.suite_prefix.specs.declared.lock_mode.LockMode.{LockMode}
 pub use Rattle.txn_core.proofs.Asks.{asks_same}
-pub use Rattle.txn_core.proofs.Gathers.{Each, each_but, each_with, tell_start}
+pub use Rattle.txn_core.proofs.Gathers.{Each, each_but, each_with}
 pub use Rattle.txn_core.specs.Agents.{Agent, begin, fixed_of, forget, has_sense, is_idle, left, max_jobs, next_in, next_of, started, take, take_in}
 pub use Rattle.txn_core.specs.Doing.{After, Deciding, Doing, Ends, Fetching, Finishing, Fixed, Gathering, GoesOn, Granted, Phase, Preparing, Proposal, Running, RunningSweep, SweepRun, Task, TransactionRun, Widening}
 pub use Rattle.txn_core.specs.Suites.{GatheredSuite, ReadPoint, Suites, first_or, known_of, settled, source_of, suite_of, with_suite}

@@ -1,9 +1,9 @@
 -- What a transaction holds of a suite, and what its agent caches of it, stays the register's in each step.
 use Rattle.law_run_knowledge.proofs.Vocabulary.{◌≡◌, ℕ, zero, suc, ◌<◌, Bool, true, false, cond, ◌⊎◌, inl, inr, List, [], ◌∷◌, Option, Some, None, Ok, Err, refl, sym, ap, subst, ◌∙◌, arith, ◌==◌, length, find, nat_cmp, eqb-true, and_parts}
-use Rattle.law_run_knowledge.proofs.Vocabulary.{nat_cmp_total, same_Some, none-some, IsOrdered, Content, empty_content, held_by, absent_prefix, Prefix, LockMode, Request, Reply, Hold, Know, Said, gives_of, Entry, Cache, is_of, entry_of}
-use Rattle.law_run_knowledge.proofs.Vocabulary.{hint, content_at, at_version, put, searched, ReadPoint, GatheredSuite, Suites, suite_of, with_suite, first_or, settled, source_of, Response, Replied, Lacked, Granted, Fixed, Task, Proposal}
-use Rattle.law_run_knowledge.proofs.Vocabulary.{Phase, Gathering, Fetching, Widening, Preparing, Deciding, Finishing, TransactionRun, After, GoesOn, Ends, asks_same, Each, each_but, each_with, tell_start, Beginning, WasPrefix, WasContent}
-use Rattle.law_run_knowledge.proofs.Vocabulary.{GoesWith, World, CopiesWere, SaidIs, EntryWas, CacheWas, ToldVersion, FirstWas, SuiteWas, Lack, entries_come_from_puts, Has, has_to}
+use Rattle.law_run_knowledge.proofs.Vocabulary.{nat_cmp_total, same_Some, none-some, IsOrdered, Content, absent_prefix, Prefix, LockMode, Request, Reply, Hold, Know, Said, gives_of, Entry, Cache, is_of, entry_of, hint, content_at, at_version, put}
+use Rattle.law_run_knowledge.proofs.Vocabulary.{searched, ReadPoint, GatheredSuite, Suites, suite_of, with_suite, first_or, settled, source_of, Response, Replied, Lacked, Granted, Fixed, Task, Proposal, Phase, Gathering, Fetching, Widening}
+use Rattle.law_run_knowledge.proofs.Vocabulary.{Preparing, Deciding, Finishing, TransactionRun, After, GoesOn, Ends, asks_same, Each, each_but, each_with, Beginning, WasPrefix, WasContent, GoesWith, World, CopiesWere, SaidIs, EntryWas, CacheWas}
+use Rattle.law_run_knowledge.proofs.Vocabulary.{ToldVersion, FirstWas, SuiteWas, Lack, entries_come_from_puts, Has, has_to}
 use Rattle.std.specs.Prelude.{unwrap_or}
 use Rattle.sorted_map.specs.Laws.{IsOrdered-insert}
 use Rattle.rep_core.specs.declared.reply.Verdict.{Verdict}
@@ -15,16 +15,15 @@ use Rattle.txn_core.specs.declared.ending.Cause.TheVariants.{Lost}
 use Rattle.txn_core.specs.declared.ending.Ending.{Ending}
 use Rattle.txn_core.specs.Transactions.{Step, Gathered, tell_end, give_up, prepare, locked_at, short_cause, gather_by, start_from, widen_by, widen_one, widened, widen_all, opened, or_all, open_needed, open_suite, open_first, opened_with}
 use Rattle.txn_core.specs.Transactions.{free_content, after_search, heard_on, raised_or_new, keep_content, heard_of, said_to, proceed, execute, collected, hear, fetched, fetched_at, fetched_for, after_lack, after_response, given_in}
-use Rattle.txn_core.specs.Transactions.{lack_cause, verdict_in, ending_by, cause_of_abort, request_in}
+use Rattle.txn_core.specs.Transactions.{lack_cause, request_in}
 use Rattle.txn_core.proofs.Cached.{given_is}
 use Rattle.file_exec.specs.declared.executor.Outcome.{Outcome as Executed}
 use Rattle.rep_core.specs.declared.request.Request.TheVariants as request
 use Rattle.rep_core.specs.declared.reply.Reply.TheVariants as reply
-use Rattle.rep_core.specs.declared.reply.Verdict.TheVariants as verdict
 use Rattle.file_exec.specs.declared.executor.Outcome.TheVariants as exec
 use Rattle.suite_collect.specs.declared.told.Told as collect
 use Rattle.law_run_knowledge.proofs.Opened.{fetched_above}
-use Rattle.law_run_knowledge.proofs.Showed.{newest_was, showed, sourced, narrow_version, told_one}
+use Rattle.law_run_knowledge.proofs.Showed.{newest_was, showed, sourced, narrow_version}
 
 -- a suite whose content is fetched has one of a version above 0
 abbrev pub InPhase : Suites → Phase → Type 0
@@ -150,9 +149,7 @@ module _ (start : Beginning) (z : ℕ) (w : World) (copies : CopiesWere start w)
   fits_raised cache number mode None kept each is = record { from = started_was cache number kept is; told = tt; since = tt; first = λ first same. cc; content = λ content same. cc }
 
   fits_proceed : (cache : Cache) (suites : Suites) (heard : Executed) → Kept cache → Fit suites → ((number : ℕ) → heard ≡ exec.Need (Know number) → InPhase suites (Fetching number)) → Fits (proceed fixed task cache suites heard)
-  fits_proceed cache suites (exec.Need (Hold number mode)) kept fit above =
-      let suite = raised_or_new fixed task cache number mode (suite_of suites number) in
-      fits_gather cache (with_suite number suite suites) number (next suite.collector) kept (with_fit number suite suites fit (fits_raised cache number mode (suite_of suites number) kept (fit.1 number)))
+  fits_proceed cache suites (exec.Need (Hold number mode)) kept fit above = search (fits_raised cache number mode (suite_of suites number) kept (fit.1 number), fits_gather, with_fit, arith)
   fits_proceed cache suites (exec.Need (Know number)) kept fit above = (kept, (refl, fit, above number refl))
   fits_proceed cache suites (exec.Done answers changes) kept fit above = fits_widen cache suites (record { answers = answers; changes = changes }) _ kept fit
   fits_proceed cache suites (exec.Refused refusal) kept fit above = fits_prepare cache suites (Err refusal) (locked_at suites) kept fit
@@ -160,15 +157,10 @@ module _ (start : Beginning) (z : ℕ) (w : World) (copies : CopiesWere start w)
   -- ---- contents that are had without asking
 
   above_zero : (n : ℕ) → (n == 0) ≡ false → 0 < n
-  above_zero zero is = cc
-  above_zero (suc n) is = omega arith
+  above_zero n h1 = search arith
 
   free_goes : (cache : Cache) (number : ℕ) (first : ReadPoint) (content : Content) → Kept cache → number ≡ z → free_content task cache number first ≡ Some content → GoesWith start w.log first.prefix first.dver content
-  free_goes cache number first content kept is found = of (first.dver == 0) refl found
-    where
-      of : (b : Bool) → (first.dver == 0) ≡ b → cond b (Some (empty_content (held_by first.prefix.kind))) (content_at cache task.site number first.dver) ≡ Some content → GoesWith start w.log first.prefix first.dver content
-      of true none found = inr (eqb-true first.dver 0 none, sym (same_Some (empty_content (held_by first.prefix.kind)) content found))
-      of false some found = inl (found_was cache number first.dver content kept is (above_zero first.dver some) found)
+  free_goes cache number first content kept is found = search (eqb-true, same_Some, found_was, above_zero, arith)
 
   after_kept : (cache : Cache) (number : ℕ) (first : ReadPoint) → Kept cache → Kept (after_search task cache number first)
   after_kept cache number first kept = elim (first.dver == 0) as (λ b. Kept (cond b cache (searched task.site number first.dver cache))) [ true ↦ kept | false ↦ searched_kept number first.dver cache kept ]
@@ -214,10 +206,7 @@ module _ (start : Beginning) (z : ℕ) (w : World) (copies : CopiesWere start w)
       of None is later = fits
 
   pub fits_execute : (all : Gathered) → Kept all.cache → Fit all.suites → Fits (execute fixed task all)
-  fits_execute all kept fit =
-      let open' = opened (length all.suites) fixed task all in
-      let fits = opened_fits (length all.suites) all (kept, fit) in
-      fits_proceed open'.cache open'.suites (heard_on fixed task open'.suites) fits.0 fits.1 (λ number needs. fetched_above fixed task all fit.0 number needs)
+  fits_execute all kept fit = search (opened_fits (length all.suites) all (kept, fit), fits_proceed, fetched_above, arith)
 
   -- ---- replies
 
@@ -229,10 +218,7 @@ module _ (start : Beginning) (z : ℕ) (w : World) (copies : CopiesWere start w)
       new = record { prefix = prefix; dver = dver; source = source_of suite.collector dver members }
 
       new_was : suite.collector.widening ≡ None → FirstWas start w task.t new
-      new_was none = record {
-        prefix = subst (WasPrefix start w.log) (gives_of suite.collector prefix dver members is).prefix_is (newest_was start w task.t copies suite.collector.start suite.collector.told was.from was.told);
-        source = λ some. showed w task.t suite.collector.told (source_of suite.collector dver members) dver was.told some (sourced suite.collector dver members some (narrow_version suite.collector prefix dver members none is));
-      }
+      new_was none = search (gives_of, newest_was, showed, sourced, narrow_version, arith)
 
       no_first : (content : Content) → suite.content ≡ Some content → suite.first ≡ None → ⊥
       no_first content there none = let known = was.content content there in none-some known.0 (sym none ∙ known.1)
@@ -254,9 +240,7 @@ module _ (start : Beginning) (z : ℕ) (w : World) (copies : CopiesWere start w)
       }
 
   told_was : (one : collect.Told) (suite : GatheredSuite) → SaidIs (w.told one.server task.t) one.said → SuiteWas start w task.t suite → SuiteWas start w task.t (record suite { collector = tell one suite.collector })
-  told_was one suite said was =
-      let both = told_one w task.t one suite.collector said was.told was.since in
-      record { from = subst (WasPrefix start w.log) (sym (tell_start one suite.collector)) was.from; told = both.0; since = both.1; first = was.first; content = was.content }
+  told_was one suite said was = search arith
 
   -- what a reply of this server to a request of the suite says to a collector
   abbrev pub SaysTo : ℕ → Request → Reply → Type 0
@@ -350,7 +334,6 @@ module _ (start : Beginning) (z : ℕ) (w : World) (copies : CopiesWere start w)
       of : (b : Bool) → Fits (cond b (prepare task cache suites outcome left) (give_up task cache suites (Lost server)))
       of true = fits_prepare cache suites outcome left kept fit
       of false = fits_give_up cache suites (Lost server) kept fit
-  fits_response cache suites (Deciding outcome) server asked (Replied said) is above says kept fit =
-      fits_end cache suites (verdict_in said verdict.Aborted) (ending_by (verdict_in said verdict.Aborted) (cause_of_abort said)) (locked_at suites) kept fit
+  fits_response cache suites (Deciding outcome) server asked (Replied said) is above says kept fit = search (fits_end, arith)
   fits_response cache suites (Finishing [] v ending) server asked (Replied said) is above says kept fit = (kept, tt)
   fits_response cache suites (Finishing (now ∷ left) v ending) server asked (Replied said) is above says kept fit = fits_end cache suites v ending left kept fit

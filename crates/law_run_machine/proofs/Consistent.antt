@@ -1,10 +1,10 @@
 -- What each request that is served keeps of the servers, each event keeps; so every server of a run is consistent.
-use Rattle.law_run_machine.proofs.Vocabulary.{◌≡◌, ℕ, Bool, true, false, cond, List, [], ◌∷◌, Option, Some, None, refl, sym, ap, subst, ◌==◌, Opening, Request, Stamped, State, answer_of, is_full, served, Response, Lacked, Agent, fixed_of, next_of}
-use Rattle.law_run_machine.proofs.Vocabulary.{Begin, Step, Crash, Return, Forget, Lack, after, set1, servers_of, ServersAreConsistent}
+use Rattle.law_run_machine.proofs.Vocabulary.{◌≡◌, ℕ, Bool, true, false, cond, List, [], ◌∷◌, Option, Some, None, refl, sym, ap, subst, ◌==◌, Opening, Request, Stamped, State, answer_of, is_full, served, Response, Agent, fixed_of, arith, after, set1}
+use Rattle.law_run_machine.proofs.Vocabulary.{servers_of, ServersAreConsistent}
 use Rattle.rep_core.specs.Consistency.{IsConsistent}
 use Rattle.rep_core.proofs.Consistent.{consistent_opening, consistent_step}
 use Rattle.run_core.specs.declared.event.Event.{Event}
-use Rattle.run_core.specs.Worlds.{World, Actor, opening, server_at, actor_at, with_server, answered, asks_at, asks, steps_once, lacks_for, lacks, operated, operates, becomes, step}
+use Rattle.run_core.specs.Worlds.{World, Actor, opening, server_at, with_server, answered, asks_at, asks, steps_once, lacks, operated, operates, becomes, step}
 use Rattle.rep_core.specs.declared.request.Request.TheVariants as request
 use Rattle.rep_core.specs.Serving as serving
 use Rattle.law_run_machine.proofs.Servers.{servers_set, server_there, servers_open}
@@ -28,20 +28,13 @@ module _ (given : Opening) (P : (ℕ → State) → Type 0) (keeps : ServingKeep
     at_server number actor asked None there = holds
 
     by_asked : (number : ℕ) (actor : Actor) (o : Option (ℕ × Request)) → P (servers_of given (asks (fixed_of given) world number actor o).world)
-    by_asked number actor (Some asked) = at_server number actor asked (server_at world asked.0) refl
-    by_asked number actor None = holds
+    by_asked number actor o = search (at_server, arith)
 
     by_step : (number : ℕ) (o : Option Actor) → P (servers_of given (steps_once (fixed_of given) world number o).world)
-    by_step number (Some actor) = by_asked number actor (next_of (fixed_of given) actor.agent)
-    by_step number None = holds
-
-    by_lack_for : (number : ℕ) (actor : Actor) (response : Response) (o : Option (ℕ × Request)) → P (servers_of given (lacks_for (fixed_of given) world number actor response o).world)
-    by_lack_for number actor response (Some asked) = holds
-    by_lack_for number actor response None = holds
+    by_step number o = search (by_asked, arith)
 
     by_lack : (number : ℕ) (response : Response) (o : Option Actor) → P (servers_of given (lacks (fixed_of given) world number response o).world)
-    by_lack number response (Some actor) = by_lack_for number actor response (next_of (fixed_of given) actor.agent)
-    by_lack number response None = holds
+    by_lack number response o = search arith
 
     by_operator_at : (i : ℕ) (asked : Request) (st : State) → server_at world i ≡ Some st → (b : Bool) → is_full st (record { stamp = 0; value = asked }) ≡ b
         → P (servers_of given (operated world st (cond b None (Some (record { server = i; request = record { stamp = 0; value = asked }; reply = answer_of st (record { stamp = 0; value = asked }) })))).world)
@@ -49,20 +42,13 @@ module _ (given : Opening) (P : (ℕ → State) → Type 0) (keeps : ServingKeep
     by_operator_at i asked st there false is = keeps world i st (record { stamp = 0; value = asked }) there is holds
 
     by_operator : (i : ℕ) (asked : Request) (o : Option State) → server_at world i ≡ o → P (servers_of given (operates world i asked o).world)
-    by_operator i asked (Some st) there = by_operator_at i asked st there (is_full st (record { stamp = 0; value = asked })) refl
-    by_operator i asked None there = holds
+    by_operator i asked o h3 = search (by_operator_at, arith)
 
     by_agent : (number : ℕ) (change : Agent → Agent) (o : Option Actor) → P (servers_of given (becomes world number change o).world)
-    by_agent number change (Some actor) = holds
-    by_agent number change None = holds
+    by_agent number change o = search arith
 
     pub event_keeps : (event : Event) → P (servers_of given (step (fixed_of given) world event).world)
-    event_keeps (Begin number job) = by_agent number _ (actor_at world number)
-    event_keeps (Step number) = by_step number (actor_at world number)
-    event_keeps (Crash server) = by_operator server request.Crash (server_at world server) refl
-    event_keeps (Return server) = by_operator server request.Return (server_at world server) refl
-    event_keeps (Forget number site) = by_agent number _ (actor_at world number)
-    event_keeps (Lack number why) = by_lack number (Lacked why) (actor_at world number)
+    event_keeps event = search (by_agent, by_step, by_operator, by_lack, arith)
 
   pub all_keep : (world : World) (events : List Event) → P (servers_of given world) → P (servers_of given (after (fixed_of given) world events))
   all_keep world [] holds = holds

@@ -1,13 +1,12 @@
 -- The machine of a suite follows the world, event by event.
-use Rattle.law_run_machine.proofs.Vocabulary.{◌≡◌, ℕ, Bool, true, false, cond, List, [], ◌∷◌, Option, Some, None, refl, sym, subst, ◌∙◌, Opening, Request, Stamped, State, reply_of, answer_of, is_full, served, Response, Replied, Lacked, Job, Doing}
-use Rattle.law_run_machine.proofs.Vocabulary.{Agent, fixed_of, next_of, take, begin, Begin, Step, Crash, Return, Forget, Lack, Actor, server_at, actor_at, with_server, answered, asks_at, asks, steps_once, lacks_for, lacks, operated, operates}
+use Rattle.law_run_machine.proofs.Vocabulary.{◌≡◌, ℕ, Bool, true, false, cond, List, [], ◌∷◌, Option, Some, None, refl, sym, subst, ◌∙◌, Opening, Request, Stamped, State, reply_of, answer_of, is_full, served, Response, Replied, Lacked, Job, arith}
+use Rattle.law_run_machine.proofs.Vocabulary.{Doing, Agent, fixed_of, next_of, begin, Begin, Step, Crash, Return, Forget, Lack, Actor, server_at, actor_at, with_server, answered, asks_at, asks, steps_once, lacks_for, lacks, operated, operates}
 use Rattle.law_run_machine.proofs.Vocabulary.{becomes, step, after, World, set1, begun, Event, run, Obeys, Inv, all_steps, Shows, moves, AgentSide, beginning, opening_shows, decision_by, servers_of, home_in, response_events, begin_events}
 use Rattle.law_run_machine.proofs.Vocabulary.{answered_events, asked_at_events, asked_events, step_events, lacks_for_events, lack_events, operated_events, operator_events, events_of, machine_from, history_from, MachinesFollow}
 use Rattle.law_suite_machine.proofs.Starting.{begins}
 use Rattle.law_run_machine.specs.Sides.{AnsweredWell, AsksAtWell, AsksWell, StepsWell, LacksForWell, LacksWell, KeepsSide, KeepSides}
 use Rattle.law_server_moves.proofs.Steps.{each_step_moves}
 use Rattle.rep_core.specs.declared.request.Request.TheVariants as request
-use Rattle.rep_core.specs.declared.stamped.Lack.TheVariants as lack
 use Rattle.rep_core.specs.Serving as serving
 use Rattle.run_core.specs.declared.event.Event as happening
 use Rattle.run_core.specs.Worlds as worlds
@@ -54,11 +53,7 @@ module _ (given : Opening) (z : ℕ) (w : World) (world : worlds.World) (inv : I
       → AnsweredWell given z w actor st (cond b None (Some (record { server = i; request = record { stamp = actor.stamp; value = asked }; reply = answer_of st (record { stamp = actor.stamp; value = asked }) })))
       → Comes given z w (answered_events given z w actor (cond b None (Some (record { server = i; request = record { stamp = actor.stamp; value = asked }; reply = answer_of st (record { stamp = actor.stamp; value = asked }) }))))
       (answered (fixed_of given) world number actor st (cond b None (Some (record { server = i; request = record { stamp = actor.stamp; value = asked }; reply = answer_of st (record { stamp = actor.stamp; value = asked }) })))).world
-  answered_comes number actor i asked st there true is well = record {
-    obeys = well;
-    shows = own_shows (beginning z given) z (home_in given) (servers_of given world) actor.agent.doing (take (fixed_of given) actor.agent (Lacked lack.Full)) w shows;
-    consistent = all;
-  }
+  answered_comes number actor i asked st there true is well = search (own_shows, arith)
   answered_comes number actor i asked st there false is well =
       let sent : Stamped Request = record { stamp = actor.stamp; value = asked } in
       let moved = serves actor.agent.doing i st sent there is well.asks in
@@ -66,9 +61,7 @@ module _ (given : Opening) (z : ℕ) (w : World) (world : worlds.World) (inv : I
       let own = response_events given z actor (Replied (reply_of st asked)) in
       record {
         obeys = obeys-append (beginning z given) w first own moved.obeys well.does;
-        shows = subst (Shows z (home_in given) (servers_of given (with_server i (served st sent) world))) (sym (run-append (beginning z given) w first own))
-            (own_shows (beginning z given) z (home_in given) (servers_of given (with_server i (served st sent) world)) actor.agent.doing
-            (take (fixed_of given) actor.agent (Replied (reply_of st asked))) (run (beginning z given) w first) moved.shows);
+        shows = search (run-append, own_shows, arith);
         consistent = consistent_serving given world i st sent there is all;
       }
 
@@ -89,16 +82,10 @@ module _ (given : Opening) (z : ℕ) (w : World) (world : worlds.World) (inv : I
 
   lacks_for_comes : (number : ℕ) (actor : Actor) (response : Response) (o : Option (ℕ × Request)) → LacksForWell given z w actor response o
       → Comes given z w (lacks_for_events given z actor response o) (lacks_for (fixed_of given) world number actor response o).world
-  lacks_for_comes number actor response (Some asked) well = record {
-    obeys = well;
-    shows = own_shows (beginning z given) z (home_in given) (servers_of given world) actor.agent.doing (take (fixed_of given) actor.agent response) w shows;
-    consistent = all;
-  }
-  lacks_for_comes number actor response None well = nothing
+  lacks_for_comes number actor response o h4 = search (own_shows, nothing, arith)
 
   lack_comes : (number : ℕ) (response : Response) (o : Option Actor) → LacksWell given z w response o → Comes given z w (lack_events given z response o) (lacks (fixed_of given) world number response o).world
-  lack_comes number response (Some actor) well = lacks_for_comes number actor response (next_of (fixed_of given) actor.agent) well
-  lack_comes number response None well = nothing
+  lack_comes number response o h3 = search (lacks_for_comes, nothing, arith)
 
   -- ---- the operator
 
@@ -122,15 +109,10 @@ module _ (given : Opening) (z : ℕ) (w : World) (world : worlds.World) (inv : I
   -- ---- what changes agents alone
 
   becomes_comes : (number : ℕ) (change : Agent → Agent) (o : Option Actor) → Comes given z w [] (becomes world number change o).world
-  becomes_comes number change (Some actor) = record { obeys = tt; shows = shows; consistent = all }
-  becomes_comes number change None = nothing
+  becomes_comes number change o = search arith
 
   begin_comes : (number : ℕ) (job : Job) (o : Option Actor) → Obeys (beginning z given) w (begin_events given z job o) → Comes given z w (begin_events given z job o) (becomes world number (λ agent. begin (fixed_of given) agent job) o).world
-  begin_comes number job (Some actor) well = record {
-    obeys = well;
-    shows = begun_shows (beginning z given) z (home_in given) (servers_of given world) actor.agent.doing (begin (fixed_of given) actor.agent job).doing w shows;
-    consistent = all;
-  }
+  begin_comes number job (Some actor) well = search (begun_shows, arith)
   begin_comes number job None well = nothing
 
   pub event_comes : (event : happening.Event) → KeepsSide given z w world event → Comes given z w (events_of given z w world event) (step (fixed_of given) world event).world

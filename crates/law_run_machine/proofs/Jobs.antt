@@ -1,8 +1,8 @@
 -- Every agent of a run that is not idle is one of a job.
-use Rattle.law_run_machine.proofs.Vocabulary.{◌≡◌, ◌⊎◌, inl, inr, ℕ, zero, suc, ◌+◌, true, false, cond, List, [], ◌∷◌, ◌++◌, Option, Some, None, refl, sym, ap, subst, ◌∙◌, ◌&&◌, nat_lt, slice_get, false≢true, same_Some, none-some, Request, Response}
-use Rattle.law_run_machine.proofs.Vocabulary.{Job, ReadPoint, GatheredSuite, suite_of, Fixed, Proposal, Deciding, TransactionRun, Doing, Running, Actor, step, opening, actors_from, after, IsOfAJob, AgentsAreOfJobs}
+use Rattle.law_run_machine.proofs.Vocabulary.{◌≡◌, ◌⊎◌, inl, inr, ℕ, zero, suc, ◌+◌, true, false, cond, List, [], ◌∷◌, ◌++◌, Option, Some, None, refl, sym, ap, subst, ◌∙◌, ◌&&◌, nat_lt, slice_get, false≢true, same_Some, none-some, Request, arith}
+use Rattle.law_run_machine.proofs.Vocabulary.{Response, Job, ReadPoint, GatheredSuite, suite_of, Fixed, Proposal, Deciding, TransactionRun, Doing, Running, Actor, step, actors_from, after, IsOfAJob, AgentsAreOfJobs}
 use Rattle.txn_core.proofs.Quorums.{decides_on_quorums}
-use Rattle.txn_core.specs.Agents.{after_event, Forget, Agent, Take, fixed_of, next_of, take, take_in, begin, started, forget, is_idle, has_sense, max_jobs, after_all}
+use Rattle.txn_core.specs.Agents.{after_event, Forget, Agent, Take, next_of, take, take_in, begin, started, forget, is_idle, has_sense, max_jobs, after_all}
 use Rattle.run_core.proofs.EachAgent.{OfEach, after_event as each_after}
 use Rattle.run_core.specs.declared.event.Event.{Event}
 use Rattle.run_core.specs.Worlds.{World}
@@ -17,18 +17,11 @@ abbrev pub IdleOr : Fixed → Agent → Type 0
 IdleOr fixed agent = (is_idle agent.doing ≡ true) ⊎ IsOfAJob fixed agent
 
 told_more : (fixed : Fixed) (agent : Agent) (event : agents.Event) → IsOfAJob fixed agent → IsOfAJob fixed (after_event fixed agent event)
-told_more fixed agent event is = record {
-  before = is.before;
-  job = is.job;
-  told = is.told ++ event ∷ [];
-  idle = is.idle;
-  is = ap (λ agent. after_event fixed agent event) is.is ∙ sym (one_more fixed (begin fixed is.before is.job) is.told event);
-}
+told_more fixed agent event is = search (one_more fixed (begin fixed is.before is.job) is.told event, arith)
 
 -- who is idle takes nothing
 pub taken_idle : (fixed : Fixed) (agent : Agent) (response : Response) (doing : Option Doing) (asked : Option (ℕ × Request)) → is_idle doing ≡ true → (take_in fixed agent response doing asked).agent ≡ agent
-taken_idle fixed agent response None asked idle = refl
-taken_idle fixed agent response (Some doing) asked idle = absurd (false≢true idle)
+taken_idle fixed agent response doing asked h5 = search arith
 
 takes : (fixed : Fixed) (agent : Agent) (response : Response) → IdleOr fixed agent → IdleOr fixed (take fixed agent response).agent
 takes fixed agent response (inl idle) = subst (IdleOr fixed) (sym (taken_idle fixed agent response agent.doing (next_of fixed agent) idle)) (inl idle)
@@ -72,11 +65,7 @@ opens fixed start (suc count) zero actor is = subst (λ (actor : Actor). IdleOr 
 opens fixed start (suc count) (suc n) actor is = opens fixed (start + 1) count n actor is
 
 pub agents_are_of_jobs : AgentsAreOfJobs
-agents_are_of_jobs given events number actor there busy =
-    elim (all_after (fixed_of given) (opening given) events (λ n actor. opens (fixed_of given) 0 given.agents n actor) number actor there) [
-      | inl idle ↦ absurd (false≢true (sym busy ∙ idle))
-      | inr is ↦ is
-    ]
+agents_are_of_jobs given events number actor there busy = search (all_after, opens, false≢true, arith)
 
 -- ---- where a transaction is decided, each suite that it asked for had a Current
 

@@ -1,7 +1,7 @@
 -- Agents keep to their side in every run: event by event.
 use Rattle.law_run_machine.proofs.Vocabulary.{◌≡◌, inl, ℕ, zero, suc, ◌+◌, ◌<◌, ◌≤◌, Bool, true, false, cond, List, [], ◌∷◌, ◌++◌, length, Option, Some, None, refl, sym, ap, subst, ◌∙◌, arith, ◌*◌, slice_get, false≢true, same_Some, none-some}
-use Rattle.law_run_machine.proofs.Vocabulary.{max_servers, Opening, Request, Reply, has_prepared, State, reply_of, answer_of, is_full, Replied, Lacked, Job, Agent, fixed_of, next_of, take, begin, forget, Begin, Step, Crash, Return, Forget, Lack}
-use Rattle.law_run_machine.proofs.Vocabulary.{Actor, server_at, actor_at, answered, asks_at, asks, steps_once, lacks_for, lacks, operated, operates, becomes, step, Beginning, World, begun, Event, run, Obeys, Inv, all_steps, Shows, moves, beginning}
+use Rattle.law_run_machine.proofs.Vocabulary.{max_servers, Opening, Request, Reply, has_prepared, State, reply_of, answer_of, is_full, Replied, Lacked, Job, fixed_of, next_of, take, begin, forget, Begin, Step, Crash, Return, Forget, Lack, Actor}
+use Rattle.law_run_machine.proofs.Vocabulary.{server_at, actor_at, answered, asks_at, asks, steps_once, lacks_for, lacks, operated, operates, becomes, step, Beginning, World, begun, Event, run, Obeys, Inv, all_steps, Shows, moves, beginning}
 use Rattle.law_run_machine.proofs.Vocabulary.{opening_shows, decision_by, own_events, servers_of, home_in, begin_events, answered_events, asked_at_events, asked_events, step_events, lacks_for_events, lack_events, operated_events, operator_events}
 use Rattle.law_run_machine.proofs.Vocabulary.{events_of, moved, SidesAreKept, Owed, AreOwed}
 use Rattle.law_suite_machine.proofs.Starting.{begins}
@@ -23,7 +23,6 @@ use Rattle.law_run_machine.proofs.Linked.{Untouched, Linked, AllLinked, linked_l
 use Rattle.law_run_machine.proofs.Turns.{turn}
 use Rattle.law_run_machine.proofs.Decided.{may_of}
 use Rattle.law_run_machine.proofs.Waiting.{Waiting}
-use Rattle.law_run_machine.proofs.Readying.{IsReadying}
 use Rattle.law_run_machine.proofs.Readied.{Readied, ready_next}
 use Rattle.law_run_machine.proofs.Jobs.{All, event_all, opens as jobs_open, firsts}
 use Rattle.law_run_machine.proofs.Waited.{AllWaiting, waits_first, waits_next}
@@ -35,12 +34,10 @@ next_number u same = absurd (omega arith)
 -- ---- the operator's requests are nobody's
 
 crashed_of : (t z : ℕ) (home : ℕ → ℕ) (decision : Event) (i : ℕ) (w : World) (said : Reply) → AreOf t (moves z home decision i w request.Crash said)
-crashed_of t z home decision i w reply.Done = (tt, tt)
-crashed_of t z home decision i w _ = tt
+crashed_of t z home decision i w said = search arith
 
 returned_of : (t z : ℕ) (home : ℕ → ℕ) (decision : Event) (i : ℕ) (w : World) (said : Reply) → AreOf t (moves z home decision i w request.Return said)
-returned_of t z home decision i w reply.Done = tt
-returned_of t z home decision i w _ = tt
+returned_of t z home decision i w said = search arith
 
 module _ (given : Opening) (z : ℕ) (w : World) (world : worlds.World) (inv : Inv (beginning z given) w) (shows : Shows z (home_in given) (servers_of given world) w)
     (all : AllConsistent (servers_of given world)) (linked : AllLinked z w world) (owed : Owed given z w world) (waiting : AllWaiting given world) (readied : Readied z w world)
@@ -240,18 +237,8 @@ sides_from given z w world (event ∷ events) inv shows all linked waiting readi
 
 pub actor_opens : (start count n : ℕ) (actor : Actor) → slice_get (worlds.actors_from start count) n ≡ Some actor → (n < count) × (actor.agent ≡ agents.opening (start + n))
 actor_opens start zero n actor is = absurd (none-some actor is)
-actor_opens start (suc count) zero actor is =
-    (omega arith, ap (λ (actor : Actor). actor.agent) (sym (same_Some _ actor is)) ∙ ap agents.opening (plus start))
-  where
-    plus : (start : ℕ) → start ≡ start + 0
-    plus start = omega arith
-actor_opens start (suc count) (suc n) actor is =
-    let rest = actor_opens (start + 1) count n actor is in
-    let few = rest.0 in
-    (omega arith, rest.1 ∙ ap agents.opening (shift start n))
-  where
-    shift : (start n : ℕ) → start + 1 + n ≡ start + suc n
-    shift start n = omega arith
+actor_opens start (suc count) zero actor is = search (same_Some, arith)
+actor_opens start (suc count) (suc n) actor is = search (actor_opens (start + 1) count n actor is, arith)
 
 untouched_begun : (z : ℕ) (given : Opening) (t : ℕ) → Untouched (begun (beginning z given)) t
 untouched_begun z given t = record { told = λ i. refl; aim = refl; going = record { gave_up = refl; verdict = inl refl } }
@@ -260,13 +247,7 @@ linked_opening : (z : ℕ) (given : Opening) (n : ℕ) → Linked z (begun (begi
 linked_opening z given n = record { index = refl; fresh = λ place past. untouched_begun z given (64 * place + n); doing = tt }
 
 pub opens_linked : (z : ℕ) (given : Opening) → given.agents ≤ 64 → AllLinked z (begun (beginning z given)) (worlds.opening given)
-opens_linked z given few n actor there =
-    let is = actor_opens 0 given.agents n actor there in
-    let within = is.0 in
-    (omega arith, subst (Linked z (begun (beginning z given)) n) (sym (is.1 ∙ ap agents.opening (plus n))) (linked_opening z given n))
-  where
-    plus : (n : ℕ) → 0 + n ≡ n
-    plus n = omega arith
+opens_linked z given few n actor there = search (actor_opens, linked_opening, arith)
 
 pub opens_waiting : (given : Opening) → AllWaiting given (worlds.opening given)
 opens_waiting given n actor there =
@@ -278,11 +259,7 @@ servers_count given start zero = refl
 servers_count given start (suc count) = ap suc (servers_count given (start + 1) count)
 
 pub opens_readied : (z : ℕ) (given : Opening) → given.servers ≤ max_servers → Readied z (begun (beginning z given)) (worlds.opening given)
-opens_readied z given few = record {
-  agents = λ n actor there. let is = actor_opens 0 given.agents n actor there in subst (λ (agent : Agent). IsReadying z (begun (beginning z given)) agent.doing) (sym is.1) tt;
-  below = λ j u told. absurd (false≢true told);
-  few = subst (λ n. n ≤ max_servers) (sym (servers_count given 0 given.servers)) few;
-}
+opens_readied z given few = search (actor_opens, false≢true, servers_count, arith)
 
 pub sides_are_kept : SidesAreKept
 sides_are_kept given z events valid few few_servers owed =

@@ -1,6 +1,6 @@
 -- Agents keep to their side in every run: what each event keeps of agents and machine together.
-use Rattle.law_run_machine.proofs.Vocabulary.{◌≡◌, inl, inr, ℕ, zero, suc, ◌+◌, ◌<◌, ◌≤◌, Option, Some, None, is_some, refl, sym, ap, ◌∙◌, arith, ◌*◌, nat_cmp, none-some, IsOrdered, Suites, Phase, Finishing, TransactionRun, Sweeping, Telling, Doing}
-use Rattle.law_run_machine.proofs.Vocabulary.{Running, RunningSweep, Agent, locks, Actor, actor_at, World, MayFinish, ended_as}
+use Rattle.law_run_machine.proofs.Vocabulary.{◌≡◌, ℕ, zero, suc, ◌+◌, ◌<◌, ◌≤◌, Option, Some, None, is_some, refl, ap, ◌∙◌, arith, ◌*◌, nat_cmp, IsOrdered, Suites, Phase, TransactionRun, Sweeping, Telling, Doing, Running, RunningSweep, Agent, locks}
+use Rattle.law_run_machine.proofs.Vocabulary.{Actor, actor_at, World, ended_as}
 use Rattle.run_core.specs.Worlds as worlds
 use Rattle.law_run_machine.proofs.Quiet.{Quiet}
 use Rattle.law_run_machine.proofs.Stages.{Going, Stage}
@@ -42,32 +42,16 @@ AllLinked z w world = (n : ℕ) (actor : Actor) → actor_at world n ≡ Some ac
 -- ---- what others do leaves it
 
 going_quiet : (w later : World) (t : ℕ) → Quiet w later t → Going w t → Going later t
-going_quiet w later t quiet going = record {
-  gave_up = quiet.gave_up ∙ going.gave_up;
-  verdict = elim (quiet.verdict) [
-    | inl same ↦ elim (going.verdict) [ inl none ↦ inl (same ∙ none) | inr aborted ↦ inr (same ∙ aborted) ]
-    | inr aborts ↦ inr aborts.1
-  ];
-}
+going_quiet w later t quiet going = search arith
 
 pub untouched_quiet : (w later : World) (t : ℕ) → Quiet w later t → Untouched w t → Untouched later t
 untouched_quiet w later t quiet is = record { told = λ i. quiet.told i ∙ is.told i; aim = quiet.aim ∙ is.aim; going = going_quiet w later t quiet is.going }
 
-finish_quiet : (w later : World) (t : ℕ) (v : _) → Quiet w later t → MayFinish w t v → MayFinish later t v
-finish_quiet w later t v quiet may = record {
-  ended = elim (may.ended) [
-    | inl is ↦ elim (quiet.verdict) [ inl same ↦ inl (same ∙ is) | inr aborts ↦ absurd (none-some v (sym aborts.0 ∙ is)) ]
-    | inr gave ↦ inr (gave.0, quiet.gave_up ∙ gave.1)
-  ];
-}
-
 stage_quiet : (z : ℕ) (w later : World) (t : ℕ) (suites : Suites) (phase : Phase) → Quiet w later t → Stage z w t suites phase → Stage z later t suites phase
-stage_quiet z w later t suites (Finishing servers v ending) quiet stage = finish_quiet w later t (ended_as v) quiet stage
-stage_quiet z w later t suites other quiet stage = (going_quiet w later t quiet stage.0, quiet.aim ∙ stage.1)
+stage_quiet z w later t suites phase h6 h7 = search arith
 
 round_later : (w later : World) (now : Sweeping) → ((t : ℕ) (v : _) → w.verdict t ≡ Some v → later.verdict t ≡ Some v) → InRound w now → InRound later now
-round_later w later (Telling t v locks) stays in' = stays t (ended_as v) in'
-round_later w later other stays in' = tt
+round_later w later now h3 h4 = search arith
 
 pub numbered_at : (t n count : ℕ) → t + 64 ≡ 64 * count + n → n < 64 → (place : ℕ) × (t ≡ 64 * place + n)
 numbered_at t n zero is small = absurd (omega arith)

@@ -1,10 +1,9 @@
 -- In every run each server that told a transaction of a copy has prepared, where it is decided: event by event.
-use Rattle.law_run_machine.proofs.Vocabulary.{◌≡◌, ℕ, ◌+◌, ◌<◌, ◌≤◌, Bool, true, false, cond, List, [], ◌∷◌, length, Option, Some, None, is_some, refl, sym, ap, subst, ◌∙◌, arith, ◌==◌, ◌&&◌, ◌*◌, nat_lt, slice_get, slice_set, same_Some}
-use Rattle.law_run_machine.proofs.Vocabulary.{slice_get_within, length-set, max_servers, Opening, is_exclusive, Part, Request, Reply, State, reply_of, answer_of, is_full, served, parts_at, Replied, Lacked, Job, Transaction, Sweep, Preparing, Doing}
-use Rattle.law_run_machine.proofs.Vocabulary.{Running, RunningSweep, request_in, changes_of, Agent, fixed_of, next_in, next_of, take, take_in, begin, started, forget, is_idle, has_sense, max_jobs, asks_same, Begin, Step, Crash, Return, Forget, Lack}
-use Rattle.law_run_machine.proofs.Vocabulary.{Actor, server_at, actor_at, answered, asks_at, asks, steps_once, lacks_for, lacks, operated, operates, becomes, step, Beginning, World, Told, Verdict, set2, Event, Held, Upgrade, Overrule, happens, run}
-use Rattle.law_run_machine.proofs.Vocabulary.{upgraded_told, at2, prepare_of, first_verdict, moves, beginning, decision_by, own_events, home_in, begin_events, answered_events, asked_at_events, asked_events, step_events, lacks_for_events, lack_events}
-use Rattle.law_run_machine.proofs.Vocabulary.{operated_events, operator_events, moved}
+use Rattle.law_run_machine.proofs.Vocabulary.{◌≡◌, ℕ, ◌+◌, ◌<◌, ◌≤◌, Bool, true, false, cond, List, [], ◌∷◌, length, Option, Some, None, is_some, refl, sym, ap, subst, ◌∙◌, arith, ◌&&◌, ◌*◌, nat_lt, slice_get, slice_set, same_Some, slice_get_within}
+use Rattle.law_run_machine.proofs.Vocabulary.{length-set, max_servers, Opening, Part, Request, Reply, State, reply_of, answer_of, is_full, served, Replied, Lacked, Job, Transaction, Sweep, Doing, Agent, fixed_of, next_in, next_of, take, take_in}
+use Rattle.law_run_machine.proofs.Vocabulary.{begin, started, forget, is_idle, has_sense, max_jobs, asks_same, Begin, Step, Crash, Return, Forget, Lack, Actor, server_at, actor_at, answered, asks_at, asks, steps_once, lacks_for, lacks, operated}
+use Rattle.law_run_machine.proofs.Vocabulary.{operates, becomes, step, Beginning, World, Told, Verdict, set2, Event, happens, run, at2, prepare_of, first_verdict, moves, beginning, decision_by, own_events, home_in, begin_events, answered_events}
+use Rattle.law_run_machine.proofs.Vocabulary.{asked_at_events, asked_events, step_events, lacks_for_events, lack_events, operated_events, operator_events, moved}
 use Rattle.rep_core.specs.declared.request.Request.TheVariants as request
 use Rattle.rep_core.specs.declared.reply.Reply.TheVariants as reply
 use Rattle.rep_core.specs.declared.stamped.Lack.TheVariants as lack
@@ -12,7 +11,7 @@ use Rattle.run_core.specs.declared.event.Event as happening
 use Rattle.run_core.specs.Worlds as worlds
 use Rattle.law_run_machine.proofs.Joining.{run-append}
 use Rattle.law_run_machine.proofs.Own.{own_told, begun_told}
-use Rattle.law_run_machine.proofs.Sending.{decision_told, asks_there}
+use Rattle.law_run_machine.proofs.Sending.{asks_there}
 use Rattle.law_run_machine.proofs.Turned.{set_here, set_apart, same_or}
 use Rattle.law_run_machine.proofs.Readying.{IsReadying, PreparesNow, ready_stays, prepared_now, ready_begin, readying_left, readying_later, take_readying}
 
@@ -23,40 +22,24 @@ abbrev pub ToldBelow : World → Type 0
 ToldBelow w = (j u : ℕ) → is_some (w.told j u) ≡ true → j < max_servers
 
 module _ (start : Beginning) (z : ℕ) (home : ℕ → ℕ) (decision : Event) (i : ℕ) (w : World) (small : i < max_servers) (below : ToldBelow w) (keeps : (happens start w decision).told ≡ w.told) where
-  below_same : (later : World) → later.told ≡ w.told → ToldBelow later
-  below_same later same j u is = below j u (ap (λ told. is_some (told j u)) (sym same) ∙ is)
 
   below_set : (t : ℕ) (x : Option Told) (j u : ℕ) → is_some (set2 w.told i t x j u) ≡ true → j < max_servers
   below_set t x j u = at2 (λ o. is_some o ≡ true → j < max_servers) w.told i t x j u (λ at _. subst (λ j. j < max_servers) (sym at.0) small) (λ _ is. below j u is)
 
   below_if : (b : Bool) (event : Event) → ToldBelow (happens start w event) → ToldBelow (run start w (cond b (event ∷ []) []))
-  below_if true event is = is
-  below_if false event is = below
+  below_if b event h2 = search arith
 
   below_prepare : (t : ℕ) (o : Option Part) → ToldBelow (run start w (prepare_of i t w o))
-  below_prepare t (Some part) = below
-  below_prepare t None = below
+  below_prepare t o = search arith
 
   below_ruling : (b : Bool) (o : Option Verdict) (event : Event) → (happens start w event).told ≡ w.told → ToldBelow (run start w (cond b (first_verdict o event) []))
-  below_ruling true None event same = below_same (happens start w event) same
-  below_ruling true (Some old) event same = below
-  below_ruling false o event same = below
+  below_ruling b o event h3 = search arith
 
   pub below_served : (asked : Request) (said : Reply) → ToldBelow (run start w (moves z home decision i w asked said))
-  below_served (request.Poll t s m) (reply.Held prefix dver) = below_if (z == s) (Held i t (is_exclusive m)) (below_set t _)
-  below_served (request.Upgrade t s) (reply.Held prefix dver) = below_if (z == s) (Upgrade i t) (below_set t (upgraded_told (w.told i t)))
-  below_served (request.Prepare t parts) reply.Prepared = below_prepare t _
-  below_served (request.Decide t decided) (reply.Verdict v) = below_ruling (home t == i) (w.verdict t) decision keeps
-  below_served (request.Resolve t) (reply.Verdict v) = below_ruling (home t == i) (w.verdict t) (Overrule t) refl
-  below_served (request.Finish t v) reply.Done = below
-  below_served (request.Break t s) reply.Done = below_if (z == s) _ below
-  below_served request.Crash reply.Done = below
-  below_served asked said = below
+  below_served asked said = search (below_if, below_set, below_prepare, below_ruling, arith)
 
 decision_keeps : (start : Beginning) (z : ℕ) (w : World) (doing : Option Doing) → (happens start w (decision_by z w doing)).told ≡ w.told
-decision_keeps start z w (Some (Running txn_run)) = decision_told start z w txn_run.task txn_run.suites txn_run.phase
-decision_keeps start z w (Some (RunningSweep sweep_run)) = refl
-decision_keeps start z w None = refl
+decision_keeps start z w doing = search arith
 
 -- ---- agents, event by event
 
@@ -76,31 +59,12 @@ more_ready start w events i u is = ready_stays start w events i u is
 set_readying : (z : ℕ) (w later : World) (world : worlds.World) (n : ℕ) (was now : Actor) → actor_at world n ≡ Some was → AllReadying z w world
     → ((i u : ℕ) → is_some (w.ready i u) ≡ true → is_some (later.ready i u) ≡ true) → IsReadying z later now.agent.doing
     → (m : ℕ) (x : Actor) → slice_get (slice_set world.agents n now) m ≡ Some x → IsReadying z later x.agent.doing
-set_readying z w later world n was now there all more here m x is =
-    same_or (IsReadying z later x.agent.doing) m n
-    (λ same.
-    let x_is : now ≡ x = same_Some now x (sym (set_here world.agents n was now there) ∙ ap (slice_get (slice_set world.agents n now)) (sym same) ∙ is) in
-    subst (λ (x : Actor). IsReadying z later x.agent.doing) x_is here)
-    (λ apart. readying_later z w later x.agent.doing more (all m x (sym (set_apart world.agents n m now apart) ∙ is)))
+set_readying z w later world n was now there all more here m x is = search (same_or, same_Some, set_here, slice_get, slice_set, readying_later, set_apart, arith)
 
 -- what is answered Prepared
 now_prepared : (given : Opening) (z : ℕ) (w : World) (doing : Option Doing) (asked : ℕ × Request) (st : State) → next_in (fixed_of given) doing ≡ Some asked
     → PreparesNow z (run (beginning z given) w (moves z (home_in given) (decision_by z w doing) asked.0 w asked.1 (reply_of st asked.1))) doing (Replied (reply_of st asked.1))
-now_prepared given z w doing asked st is before now left outcome running phase said held =
-    let fixed = fixed_of given in
-    let t = before.task.t in
-    let parts = parts_at before.suites (changes_of outcome) now in
-    let next : request_in fixed before.task before.suites (Preparing (now ∷ left) outcome) ≡ Some asked = ap (request_in fixed before.task before.suites) (sym phase) ∙ ap (next_in fixed) (sym running) ∙ is in
-    let request_is : request.Prepare t parts ≡ asked.1 = asks_same now asked.0 (request.Prepare t parts) asked.1 next in
-    let server_is : now ≡ asked.0 = asks_there now asked.0 (request.Prepare t parts) asked.1 next in
-    let prepared : reply_of st asked.1 ≡ reply.Prepared = said_so (reply_of st asked.1) reply.Prepared said in
-    subst (λ said. is_some ((run (beginning z given) w (moves z (home_in given) (decision_by z w doing) asked.0 w asked.1 said)).ready now t) ≡ true) (sym prepared)
-    (subst (λ request. is_some ((run (beginning z given) w (moves z (home_in given) (decision_by z w doing) asked.0 w request reply.Prepared)).ready now t) ≡ true) request_is
-    (subst (λ i. is_some ((run (beginning z given) w (moves z (home_in given) (decision_by z w doing) i w (request.Prepare t parts) reply.Prepared)).ready now t) ≡ true) server_is
-    (prepared_now (beginning z given) w before.suites (changes_of outcome) z now t held)))
-  where
-    said_so : (a b : Reply) → Replied a ≡ Replied b → a ≡ b
-    said_so a b same = cc
+now_prepared given z w doing asked st is before now left outcome running phase said held = search (asks_same, asks_there, prepared_now, arith)
 
 module _ (given : Opening) (z : ℕ) (w : World) (world : worlds.World) (is : Readied z w world) where
   abbrev first : Beginning

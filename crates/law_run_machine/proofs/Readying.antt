@@ -1,9 +1,9 @@
 -- A transaction is decided once each server that told it of a copy has prepared.
-use Rattle.law_run_machine.proofs.Vocabulary.{◌≡◌, ◌⊎◌, inl, inr, ℕ, zero, suc, ◌+◌, ◌<◌, ◌≤◌, true, false, cond, List, [], ◌∷◌, Option, Some, None, is_some, refl, sym, ap, subst, ◌∙◌, arith, ◌==◌, filter, nat_cmp, false≢true, nat_tests, max_servers}
-use Rattle.law_run_machine.proofs.Vocabulary.{get, Shared, Part, Request, Reply, is_prepared, Has, filter_has, map_has, has_any, any_find, holds, Cache, GatheredSuite, Suites, suite_of, has_locks, holds_lock, told_in, told_at, part_of, parts_at}
-use Rattle.law_run_machine.proofs.Vocabulary.{Response, Replied, Lacked, Cause, Lost, Ending, Undecided, Changes, Fixed, Task, Proposal, Phase, Gathering, Fetching, Widening, Preparing, Deciding, Finishing, TransactionRun, SweepRun, Doing, Running}
-use Rattle.law_run_machine.proofs.Vocabulary.{RunningSweep, After, GoesOn, Ends, execute, tell_end, give_up, prepare, locked_at, numbers_from, lack_cause, after_response, request_in, verdict_in, ending_by, cause_of_abort, Agent, next_in, take_in}
-use Rattle.law_run_machine.proofs.Vocabulary.{left, IsEarly, goes_response, goes_execute, Beginning, World, Event, Prepare, happens, run, at2, itself, prepare_of}
+use Rattle.law_run_machine.proofs.Vocabulary.{◌≡◌, ◌⊎◌, inl, inr, ℕ, zero, suc, ◌+◌, ◌<◌, ◌≤◌, true, false, cond, List, [], ◌∷◌, Option, Some, None, is_some, refl, sym, ◌∙◌, arith, ◌==◌, filter, nat_cmp, false≢true, nat_tests, max_servers, get}
+use Rattle.law_run_machine.proofs.Vocabulary.{Shared, Request, Reply, is_prepared, Has, filter_has, map_has, has_any, any_find, holds, Cache, GatheredSuite, Suites, has_locks, holds_lock, told_at, part_of, parts_at, Response, Replied, Lacked, Cause}
+use Rattle.law_run_machine.proofs.Vocabulary.{Lost, Ending, Undecided, Changes, Fixed, Task, Proposal, Phase, Gathering, Fetching, Widening, Preparing, Deciding, Finishing, TransactionRun, SweepRun, Doing, Running, RunningSweep, After, GoesOn, Ends}
+use Rattle.law_run_machine.proofs.Vocabulary.{execute, tell_end, give_up, prepare, locked_at, numbers_from, lack_cause, after_response, request_in, verdict_in, ending_by, cause_of_abort, Agent, next_in, take_in, left, IsEarly, goes_response}
+use Rattle.law_run_machine.proofs.Vocabulary.{goes_execute, Beginning, World, Event, happens, run, at2, itself, prepare_of}
 use Rattle.std.specs.BTreeMap.{is_at}
 use Rattle.rep_core.specs.declared.reply.Verdict.{Verdict}
 use Rattle.rep_core.specs.declared.reply.Reply.TheVariants as reply
@@ -14,8 +14,7 @@ use Rattle.law_server_moves.specs.Preparing as preparing
 -- ---- what was prepared stays so in the books
 
 ready_event : (start : Beginning) (w : World) (event : Event) (i u : ℕ) → is_some (w.ready i u) ≡ true → is_some ((happens start w event).ready i u) ≡ true
-ready_event start w (Prepare j t left) i u is = at2 (λ o. is_some o ≡ true) w.ready j t (Some left) i u (λ _. refl) (λ _. is)
-ready_event start w other i u is = is
+ready_event start w event i u h5 = search arith
 
 pub ready_stays : (start : Beginning) (w : World) (events : List Event) (i u : ℕ) → is_some (w.ready i u) ≡ true → is_some ((run start w events).ready i u) ≡ true
 ready_stays start w [] i u is = is
@@ -40,31 +39,11 @@ found_there (e ∷ es) key value is =
 
 -- where a suite's collector holds a lock, the suite stands among those that were gathered
 holds_at : (suites : Suites) (z i : ℕ) → holds Shared (told_at suites z) i ≡ true → (one : ℕ × GatheredSuite) × Has suites one × (one.0 ≡ z) × (holds_lock one.1 i ≡ true)
-holds_at suites z i is = by (suite_of suites z) refl is
-  where
-    by : (o : Option GatheredSuite) → suite_of suites z ≡ o → holds Shared (told_in o) i ≡ true → (one : ℕ × GatheredSuite) × Has suites one × (one.0 ≡ z) × (holds_lock one.1 i ≡ true)
-    by None there is = absurd (false≢true is)
-    by (Some suite) there is = let found = found_there suites z suite there in (found.0, found.1, found.2, ap (λ (suite : GatheredSuite). holds_lock suite i) found.3 ∙ is)
+holds_at suites z i is = search (false≢true, found_there, arith)
 
 among : (start count i : ℕ) → start ≤ i → i < start + count → Has (numbers_from start count) i
 among start zero i low high = absurd (omega arith)
-among start (suc count) i low high =
-    elim (start == i) as (λ b. (start == i) ≡ b → Has (numbers_from start (suc count)) i) [
-      | true ↦ λ e. inl (same start i e)
-      | false ↦ λ e. let other = apart start i e in inr (among (start + 1) count i (let a = other in above start i low a) (omega arith))
-    ] refl
-  where
-    same : (a b : ℕ) → (a == b) ≡ true → a ≡ b
-    same a b e = grind (arith, nat_tests)
-
-    apart : (a b : ℕ) → (a == b) ≡ false → a ≡ b → ⊥
-    apart a b e h = grind (arith, nat_tests)
-
-    above : (a b : ℕ) → a ≤ b → (a ≡ b → ⊥) → a + 1 ≤ b
-    above a b low other = elim (a == b) as (λ c. (a == b) ≡ c → a + 1 ≤ b) [ true ↦ λ e. absurd (other (same a b e)) | false ↦ λ e. strict a b low e ] refl
-      where
-        strict : (a b : ℕ) → a ≤ b → (a == b) ≡ false → a + 1 ≤ b
-        strict a b low e = grind (arith, nat_tests)
+among start (suc count) i low high = search (nat_tests, among (start + 1) count i, arith)
 
 locked_has : (suites : Suites) (z i : ℕ) → i < max_servers → holds Shared (told_at suites z) i ≡ true → Has (locked_at suites) i
 locked_has suites z i small is =
@@ -82,11 +61,7 @@ part_there suites changes z i is =
 -- and so it is prepared in the books
 pub prepared_now : (start : Beginning) (w : World) (suites : Suites) (changes : Changes) (z i t : ℕ) → holds Shared (told_at suites z) i ≡ true
     → is_some ((run start w (prepare_of i t w (preparing.part_of z (parts_at suites changes i)))).ready i t) ≡ true
-prepared_now start w suites changes z i t is = by (preparing.part_of z (parts_at suites changes i)) (part_there suites changes z i is)
-  where
-    by : (o : Option Part) → is_some o ≡ true → is_some ((run start w (prepare_of i t w o)).ready i t) ≡ true
-    by None none = absurd (false≢true none)
-    by (Some part) _ = at2 (λ o. is_some o ≡ true) w.ready i t (Some (preparing.left_of part (w.copy i))) i t (λ _. refl) (λ elsewhere. absurd (elsewhere (refl, refl)))
+prepared_now start w suites changes z i t is = search (part_there suites changes z i is, false≢true, at2, arith)
 
 -- ---- a transaction
 
@@ -100,15 +75,9 @@ abbrev ReadyLeft : ℕ → World → ℕ → After TransactionRun → Type 0
 ReadyLeft z w t (GoesOn txn_run) = (txn_run.task.t ≡ t) × ReadyIn z w t txn_run.suites txn_run.phase
 ReadyLeft z w t (Ends ending) = Unit {0}
 
-pub ready_later : (z : ℕ) (w later : World) (t : ℕ) (suites : Suites) (phase : Phase) → ((i : ℕ) → is_some (w.ready i t) ≡ true → is_some (later.ready i t) ≡ true) → ReadyIn z w t suites phase → ReadyIn z later t suites phase
-ready_later z w later t suites (Preparing left outcome) more is = λ i small held. elim (is i small held) [ inl waits ↦ inl waits | inr ready ↦ inr (more i ready) ]
-ready_later z w later t suites (Deciding outcome) more is = λ i small held. more i (is i small held)
-ready_later z w later t suites other more is = tt
-
 module _ (z : ℕ) (w : World) (task : Task) where
   ready_end : (cache : Cache) (suites : Suites) (v : Verdict) (ending : Ending) (servers : List ℕ) → ReadyLeft z w task.t (tell_end task cache suites v ending servers).after
-  ready_end cache suites v ending [] = tt
-  ready_end cache suites v ending (server ∷ servers) = (refl, tt)
+  ready_end cache suites v ending servers = search arith
 
   ready_give_up : (cache : Cache) (suites : Suites) (cause : Cause) → ReadyLeft z w task.t (give_up task cache suites cause).after
   ready_give_up cache suites cause = ready_end cache suites verdict.Aborted (Undecided cause) (locked_at suites)
@@ -116,14 +85,10 @@ module _ (z : ℕ) (w : World) (task : Task) where
   ready_prepare : (cache : Cache) (suites : Suites) (outcome : Proposal) (left : List ℕ)
       → ((i : ℕ) → i < max_servers → holds Shared (told_at suites z) i ≡ true → Has left i ⊎ (is_some (w.ready i task.t) ≡ true))
       → ReadyLeft z w task.t (prepare task cache suites outcome left).after
-  ready_prepare cache suites outcome [] is = (refl, λ i small held. elim (is i small held) [ inl none ↦ absurd none | inr ready ↦ ready ])
-  ready_prepare cache suites outcome (server ∷ left) is = (refl, is)
+  ready_prepare cache suites outcome left h4 = search arith
 
   ready_early : (suites : Suites) (phase : Phase) → IsEarly phase → ReadyLeft z w task.t (GoesOn (record { task = task; suites = suites; phase = phase }))
-  ready_early suites (Preparing left outcome) is = absurd is
-  ready_early suites (Deciding outcome) is = absurd is
-  ready_early suites (Finishing servers v ending) is = absurd is
-  ready_early suites other is = (refl, tt)
+  ready_early suites phase h2 = search arith
 
   ready_prepares : (cache : Cache) (suites : Suites) (outcome : Proposal) → ReadyLeft z w task.t (prepare task cache suites outcome (locked_at suites)).after
   ready_prepares cache suites outcome = ready_prepare cache suites outcome (locked_at suites) (λ i small held. inl (locked_has suites z i small held))
@@ -136,8 +101,7 @@ module _ (z : ℕ) (w : World) (task : Task) where
   ready_begin fixed cache = goes_execute task (ReadyLeft z w task.t) ready_early ready_give_up ready_prepares fixed (record { suites = []; cache = cache })
 
 prepared_is : (said : Reply) → is_prepared said ≡ true → said ≡ reply.Prepared
-prepared_is reply.Prepared is = refl
-prepared_is other is = absurd (false≢true is)
+prepared_is said h1 = search arith
 
 module _ (z : ℕ) (w later : World) (fixed : Fixed) (task : Task) (cache : Cache) (suites : Suites) (server : ℕ) (asked : Request) (response : Response)
     (more : (i : ℕ) → is_some (w.ready i task.t) ≡ true → is_some (later.ready i task.t) ≡ true) where
@@ -153,13 +117,7 @@ module _ (z : ℕ) (w later : World) (fixed : Fixed) (task : Task) (cache : Cach
           → ReadyLeft z later task.t (after_response fixed (record { task = task; suites = suites; phase = Preparing (first ∷ left) outcome }) cache server asked response).after
       of (Replied said) now =
           elim (is_prepared said) as (λ b. is_prepared said ≡ b → ReadyLeft z later task.t (cond b (prepare task cache suites outcome left) (give_up task cache suites (Lost server))).after) [
-            | true ↦ λ e. ready_prepare z later task cache suites outcome left (λ i small held. elim (ready i small held) [
-              | inl waits ↦ elim waits [
-                | inl same ↦ inr (subst (λ i. is_some (later.ready i task.t) ≡ true) same (now (ap Replied (prepared_is said e)) (subst (λ i. holds Shared (told_at suites z) i ≡ true) (sym same) held)))
-                | inr rest ↦ inl rest
-              ]
-              | inr was ↦ inr (more i was)
-            ])
+            | true ↦ λ e. search (ready_prepare, prepared_is, arith)
             | false ↦ λ _. ready_give_up z later task cache suites (Lost server)
           ] refl
       of (Lacked lacked) now = ready_give_up z later task cache suites (lack_cause server lacked)
@@ -168,11 +126,7 @@ module _ (z : ℕ) (w later : World) (fixed : Fixed) (task : Task) (cache : Cach
       of : (response : Response) → ReadyLeft z later task.t (after_response fixed (record { task = task; suites = suites; phase = Deciding outcome }) cache server asked response).after
       of (Replied said) = ready_end z later task cache suites (verdict_in said verdict.Aborted) (ending_by (verdict_in said verdict.Aborted) (cause_of_abort said)) (locked_at suites)
       of (Lacked lacked) = ready_give_up z later task cache suites (lack_cause server lacked)
-  ready_response (Finishing (first ∷ left) v ending) is ready now = of response
-    where
-      of : (response : Response) → ReadyLeft z later task.t (after_response fixed (record { task = task; suites = suites; phase = Finishing (first ∷ left) v ending }) cache server asked response).after
-      of (Replied said) = ready_end z later task cache suites v ending left
-      of (Lacked lacked) = ready_end z later task cache suites v ending left
+  ready_response (Finishing (first ∷ left) v ending) is ready now = search (ready_end, arith)
   ready_response other is ready now = cc
 
 -- ---- an agent
@@ -183,17 +137,13 @@ IsReadying z w (Some (RunningSweep sweep_run)) = Unit {0}
 IsReadying z w None = Unit {0}
 
 pub readying_left : (z : ℕ) (w : World) (t : ℕ) (after : After TransactionRun) → ReadyLeft z w t after → IsReadying z w (left Running after)
-readying_left z w t (GoesOn txn_run) ready = subst (λ t. ReadyIn z w t txn_run.suites txn_run.phase) (sym ready.0) ready.1
-readying_left z w t (Ends ending) ready = tt
+readying_left z w t after h4 = search arith
 
 readying_round : (z : ℕ) (w : World) (after : After SweepRun) → IsReadying z w (left RunningSweep after)
-readying_round z w (GoesOn sweep_run) = tt
-readying_round z w (Ends ending) = tt
+readying_round z w after = search arith
 
 pub readying_later : (z : ℕ) (w later : World) (doing : Option Doing) → ((i u : ℕ) → is_some (w.ready i u) ≡ true → is_some (later.ready i u) ≡ true) → IsReadying z w doing → IsReadying z later doing
-readying_later z w later (Some (Running txn_run)) more is = ready_later z w later txn_run.task.t txn_run.suites txn_run.phase (λ i. more i txn_run.task.t) is
-readying_later z w later (Some (RunningSweep sweep_run)) more is = tt
-readying_later z w later None more is = tt
+readying_later z w later doing h4 h5 = search arith
 
 -- what a Prepare that is answered Prepared leaves in the books
 abbrev pub PreparesNow : ℕ → World → Option Doing → Response → Type 0

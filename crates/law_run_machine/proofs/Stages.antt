@@ -1,9 +1,8 @@
 -- Where a transaction stands against the machine of a suite, and what it does by itself when it takes a response.
-use Rattle.law_run_machine.proofs.Vocabulary.{◌≡◌, ◌⊎◌, inl, inr, ℕ, Bool, true, false, cond, List, [], ◌∷◌, ◌++◌, Option, Some, None, refl, sym, ap, ◌∙◌, is_prepared, Request, Reply, Cache, Suites, suite_of, parts_at, Response, Replied, Lacked}
-use Rattle.law_run_machine.proofs.Vocabulary.{Cause, Lost, Ending, Undecided, Fixed, Task, home_of, Proposal, Phase, Gathering, Fetching, Widening, Preparing, Deciding, Finishing, TransactionRun, Running, After, GoesOn, Ends, execute, tell_end}
-use Rattle.law_run_machine.proofs.Vocabulary.{give_up, prepare, locked_at, lack_cause, prepared, after_response, request_in, changes_of, decision_of, ending_by, cause_of_abort, Agent, Taken, left, end_of, is_decide, asks_same, asked_as, fetched_as}
-use Rattle.law_run_machine.proofs.Vocabulary.{IsEarly, goes_response, goes_execute, Beginning, Change, World, Verdict, Aborted, Event, run, Obeys, MayFinish, ended_as, to_write, aim_of, aims, gives_up, fixed_in, is_finishing}
-use Rattle.law_server_moves.proofs.Placing.{here1}
+use Rattle.law_run_machine.proofs.Vocabulary.{◌≡◌, ◌⊎◌, ℕ, Bool, true, false, List, [], ◌∷◌, ◌++◌, Option, Some, None, refl, sym, ap, ◌∙◌, Request, Reply, Cache, Suites, suite_of, parts_at, Response, Replied, arith, Lacked, Cause, Lost, Ending}
+use Rattle.law_run_machine.proofs.Vocabulary.{Undecided, Fixed, Task, home_of, Proposal, Phase, Gathering, Fetching, Widening, Preparing, Deciding, Finishing, TransactionRun, Running, After, GoesOn, Ends, execute, tell_end, give_up, prepare}
+use Rattle.law_run_machine.proofs.Vocabulary.{locked_at, lack_cause, prepared, after_response, request_in, changes_of, decision_of, ending_by, cause_of_abort, Agent, Taken, left, end_of, is_decide, asks_same, asked_as, fetched_as, IsEarly}
+use Rattle.law_run_machine.proofs.Vocabulary.{goes_response, goes_execute, Beginning, World, Verdict, Aborted, Event, run, Obeys, MayFinish, ended_as, to_write, aims, gives_up, fixed_in, is_finishing}
 use Rattle.rep_core.specs.declared.request.Request.TheVariants as request
 use Rattle.rep_core.specs.declared.reply.Reply.TheVariants as reply
 use Rattle.rep_core.specs.declared.reply.Verdict as replied
@@ -44,10 +43,7 @@ module _ (start : Beginning) (z : ℕ) (agent : Agent) (w : World) (task : Task)
 
   gives_up_at : (before : Option Proposal) (cache : Cache) (suites : Suites) (cause : Cause) (servers : List ℕ) → (w.verdict task.t ≡ None) ⊎ (w.verdict task.t ≡ Some Aborted)
       → Does start z task.t w before false agent (tell_end task cache suites verdict.Aborted (Undecided cause) servers).after
-  gives_up_at None cache suites cause [] free = record { does = (record { undecided = free }, tt); stage = tt }
-  gives_up_at (Some outcome) cache suites cause [] free = record { does = (record { undecided = free }, tt); stage = tt }
-  gives_up_at None cache suites cause (server ∷ servers) free = record { does = (record { undecided = free }, tt); stage = (refl, record { ended = inr (refl, here1 w.gave_up task.t true) }) }
-  gives_up_at (Some outcome) cache suites cause (server ∷ servers) free = record { does = (record { undecided = free }, tt); stage = (refl, record { ended = inr (refl, here1 w.gave_up task.t true) }) }
+  gives_up_at before cache suites cause servers h5 = search arith
 
   given_up : (before : Option Proposal) (cache : Cache) (suites : Suites) (cause : Cause) → (w.verdict task.t ≡ None) ⊎ (w.verdict task.t ≡ Some Aborted) → Does start z task.t w before false agent (give_up task cache suites cause).after
   given_up before cache suites cause free = gives_up_at before cache suites cause (locked_at suites) free
@@ -56,21 +52,10 @@ module _ (start : Beginning) (z : ℕ) (agent : Agent) (w : World) (task : Task)
 
   module _ (going : Going w task.t) (unaimed : w.aim task.t ≡ None) where
     early : (suites : Suites) (phase : Phase) → IsEarly phase → Does start z task.t w None false agent (GoesOn (record { task = task; suites = suites; phase = phase }))
-    early suites (Preparing left outcome) is = absurd is
-    early suites (Deciding outcome) is = absurd is
-    early suites (Finishing servers v ending) is = absurd is
-    early suites other is = record { does = tt; stage = (refl, (going, unaimed)) }
-
-    -- it fixes what it is to write
-    aims_at : (suites : Suites) (outcome : Proposal) (new : Option Change) → to_write z suites outcome ≡ new
-        → Obeys start w (aim_of task.t new ++ []) × Going (run start w (aim_of task.t new ++ [])) task.t
-        × ((run start w (aim_of task.t new ++ [])).aim task.t ≡ to_write z suites outcome)
-    aims_at suites outcome (Some new) is = ((record { unaimed = unaimed }, tt), record { gave_up = going.gave_up; verdict = going.verdict }, here1 w.aim task.t (Some new) ∙ sym is)
-    aims_at suites outcome None is = (tt, going, unaimed ∙ sym is)
+    early suites phase h2 = search arith
 
     prepares_at : (cache : Cache) (suites : Suites) (outcome : Proposal) (servers : List ℕ) → Does start z task.t w None false agent (prepare task cache suites outcome servers).after
-    prepares_at cache suites outcome [] = let it = aims_at suites outcome (to_write z suites outcome) refl in record { does = it.0; stage = (refl, (it.1, it.2)) }
-    prepares_at cache suites outcome (server ∷ servers) = let it = aims_at suites outcome (to_write z suites outcome) refl in record { does = it.0; stage = (refl, (it.1, it.2)) }
+    prepares_at cache suites outcome servers = search arith
 
     prepares : (cache : Cache) (suites : Suites) (outcome : Proposal) → Does start z task.t w None false agent (prepare task cache suites outcome (locked_at suites)).after
     prepares cache suites outcome = prepares_at cache suites outcome (locked_at suites)
@@ -88,29 +73,19 @@ module _ (start : Beginning) (z : ℕ) (agent : Agent) (w : World) (task : Task)
 
   prepare_on : (cache : Cache) (suites : Suites) (outcome : Proposal) (servers : List ℕ) → Going w task.t → w.aim task.t ≡ to_write z suites outcome
       → Does start z task.t w (Some outcome) false agent (prepare task cache suites outcome servers).after
-  prepare_on cache suites outcome [] going aimed = record { does = tt; stage = (refl, (going, aimed)) }
-  prepare_on cache suites outcome (server ∷ servers) going aimed = record { does = tt; stage = (refl, (going, aimed)) }
+  prepare_on cache suites outcome servers h4 h5 = search arith
 
   prepared_word : (cache : Cache) (suites : Suites) (outcome : Proposal) (server : ℕ) (left : List ℕ) (said : Reply) → Going w task.t → w.aim task.t ≡ to_write z suites outcome
       → Does start z task.t w (Some outcome) false agent (prepared task cache suites outcome server left said).after
-  prepared_word cache suites outcome server left said going aimed =
-      elim (is_prepared said) as (λ b. Does start z task.t w (Some outcome) false agent (cond b (prepare task cache suites outcome left) (give_up task cache suites (Lost server))).after) [
-        | true ↦ prepare_on cache suites outcome left going aimed
-        | false ↦ given_up (Some outcome) cache suites (Lost server) going.verdict
-      ]
+  prepared_word cache suites outcome server left said going aimed = search (prepare_on cache suites outcome left going aimed, given_up (Some outcome) cache suites (Lost server) going.verdict, arith)
 
   -- the home has said how it ended, or nothing
   decided_as : (cache : Cache) (suites : Suites) (outcome : Proposal) (v : replied.Verdict) (cause : Cause) (servers : List ℕ) → w.verdict task.t ≡ Some (ended_as v)
       → Does start z task.t w (Some outcome) false agent (tell_end task cache suites v (ending_by v cause) servers).after
-  decided_as cache suites outcome verdict.Aborted cause servers is = gives_up_at (Some outcome) cache suites cause servers (inr is)
-  decided_as cache suites outcome (verdict.Answered answers) cause [] is = record { does = tt; stage = tt }
-  decided_as cache suites outcome (verdict.Answered answers) cause (server ∷ servers) is = record { does = tt; stage = (refl, record { ended = inl is }) }
-  decided_as cache suites outcome (verdict.Refused refusal) cause [] is = record { does = tt; stage = tt }
-  decided_as cache suites outcome (verdict.Refused refusal) cause (server ∷ servers) is = record { does = tt; stage = (refl, record { ended = inl is }) }
+  decided_as cache suites outcome v cause servers h6 = search arith
 
   finishing_on : (cache : Cache) (suites : Suites) (v : replied.Verdict) (ending : Ending) (servers : List ℕ) → MayFinish w task.t (ended_as v) → Does start z task.t w None true agent (tell_end task cache suites v ending servers).after
-  finishing_on cache suites v ending [] may = record { does = tt; stage = tt }
-  finishing_on cache suites v ending (server ∷ servers) may = record { does = tt; stage = (refl, may) }
+  finishing_on cache suites v ending servers h5 = search arith
 
 -- ---- a response, once what the server did has happened to the machine
 
@@ -121,15 +96,10 @@ pub record Leaves (w later : World) (t : ℕ) (asked : Request) (response : Resp
   pub silent : is_decide asked ≡ true → ((v : replied.Verdict) → response ≡ Replied (reply.Verdict v) → ⊥) → later.verdict t ≡ w.verdict t
 
 going_on : (w later : World) (t : ℕ) → Steady w later → Going w t → Going later t
-going_on w later t same going = record {
-  gave_up = ap (λ f. f t) same.gave_up ∙ going.gave_up;
-  verdict = elim (going.verdict) [ inl none ↦ inl (ap (λ f. f t) same.verdict ∙ none) | inr aborted ↦ inr (ap (λ f. f t) same.verdict ∙ aborted) ];
-}
+going_on w later t same going = search arith
 
 finish_on : (w later : World) (t : ℕ) (v : Verdict) → Steady w later → MayFinish w t v → MayFinish later t v
-finish_on w later t v same may = record {
-  ended = elim (may.ended) [ inl is ↦ inl (ap (λ f. f t) same.verdict ∙ is) | inr gave ↦ inr (gave.0, ap (λ f. f t) same.gave_up ∙ gave.1) ];
-}
+finish_on w later t v same may = search arith
 
 module _ (start : Beginning) (z : ℕ) (agent : Agent) (w later : World) (fixed : Fixed) (task : Task) (cache : Cache) (suites : Suites) (server : ℕ) (asked : Request)
     (response : Response) (leaves : Leaves w later task.t asked response) where
@@ -160,8 +130,7 @@ module _ (start : Beginning) (z : ℕ) (agent : Agent) (w later : World) (fixed 
       decide = ap is_decide (sym (asks_same (home_of fixed.service task.t) server (request.Decide task.t (decision_of task outcome)) asked is))
 
       by : later.verdict task.t ≡ w.verdict task.t → (w.verdict task.t ≡ None) ⊎ (w.verdict task.t ≡ Some Aborted) → (later.verdict task.t ≡ None) ⊎ (later.verdict task.t ≡ Some Aborted)
-      by same (inl none) = inl (same ∙ none)
-      by same (inr aborted) = inr (same ∙ aborted)
+      by h0 h1 = search arith
 
       replied_same : (a b : Reply) → Replied a ≡ Replied b → a ≡ b
       replied_same a b same = cc
@@ -183,12 +152,5 @@ module _ (start : Beginning) (z : ℕ) (agent : Agent) (w later : World) (fixed 
           (locked_at suites) (silent (λ v same. absurd (let e = replied_same _ _ same in cc)))
       of (Replied (reply.Locked listed)) ruled silent = gives_up_at start z agent later task (Some outcome) cache suites (cause_of_abort (reply.Locked listed)) (locked_at suites)
           (silent (λ v same. absurd (let e = replied_same _ _ same in cc)))
-  does_response (Finishing (now ∷ left) v ending) is stage =
-      let same = leaves.calm (ap rules (sym (asks_same now server (request.Finish task.t v) asked is))) in
-      of (finish_on w later task.t (ended_as v) same stage) response
-    where
-      of : MayFinish later task.t (ended_as v) → (response : Response) → Does start z task.t later None true agent
-          (after_response fixed (record { task = task; suites = suites; phase = Finishing (now ∷ left) v ending }) cache server asked response).after
-      of may (Replied said) = finishing_on start z agent later task cache suites v ending left may
-      of may (Lacked lacked) = finishing_on start z agent later task cache suites v ending left may
+  does_response (Finishing (now ∷ left) v ending) is stage = search (rules, asks_same, finish_on, finishing_on, arith)
   does_response other is stage = cc

@@ -1,11 +1,10 @@
 -- Agents against the machine of a suite: after a turn, and once a job begins.
-use Rattle.law_run_machine.proofs.Vocabulary.{◌≡◌, inl, ℕ, zero, suc, ◌+◌, ◌<◌, ◌≤◌, Bool, true, false, cond, List, [], ◌∷◌, ◌++◌, Option, Some, None, is_some, Ok, Err, refl, sym, ap, subst, ◌∙◌, arith, ◌*◌, ◌==◌, ◌&&◌, ◌||◌, nat_lt, slice_get}
-use Rattle.law_run_machine.proofs.Vocabulary.{slice_set, false≢true, and_parts, same_Some, none-some, Opening, Request, Reply, Stamped, Lock, has_prepared, State, reply_of, is_full, served, ReadPoint, GatheredSuite, Suites, suite_of, Response}
-use Rattle.law_run_machine.proofs.Vocabulary.{Replied, Lacked, Job, Transaction, Sweep, Fixed, Task, Proposal, Phase, Preparing, Deciding, TransactionRun, Sweeping, Resolving, Telling, SweepRun, Doing, Running, RunningSweep, After, GoesOn, Ends}
-use Rattle.law_run_machine.proofs.Vocabulary.{home_of, execute, decision_of, asked_now, Agent, fixed_of, next_in, next_of, take, take_in, begin, started, is_idle, has_sense, max_jobs, left, locks, says_held, is_decide, Keeps, nothing_held}
-use Rattle.law_run_machine.proofs.Vocabulary.{begin_keeps, Actor, server_at, actor_at, with_server, Beginning, Known, Change, World, Verdict, set1, Event, GiveUp, run, May, Obeys, one_is, one_not, Inv, Shows, ended_as, moves, AgentSide, beginning}
-use Rattle.law_run_machine.proofs.Vocabulary.{may_sweep, asks_in_its_name, asks_to_sweep, to_write, known_by, decides_with, decides_without, decides_first, decides_on, decision_by, decision_in, decision_with, aims, tells_aborted, begun_events}
-use Rattle.law_run_machine.proofs.Vocabulary.{own_events, servers_of, home_in}
+use Rattle.law_run_machine.proofs.Vocabulary.{◌≡◌, ℕ, zero, suc, ◌+◌, ◌<◌, ◌≤◌, Bool, true, false, cond, List, [], ◌∷◌, Option, Some, None, is_some, refl, sym, ap, subst, ◌∙◌, arith, ◌*◌, ◌==◌, ◌&&◌, ◌||◌, nat_lt, slice_get, slice_set, and_parts}
+use Rattle.law_run_machine.proofs.Vocabulary.{same_Some, none-some, Opening, Request, Reply, Stamped, Lock, has_prepared, State, reply_of, is_full, served, ReadPoint, GatheredSuite, Suites, Response, Replied, Lacked, Job, Transaction, Sweep, Fixed}
+use Rattle.law_run_machine.proofs.Vocabulary.{Task, Proposal, Phase, Preparing, Deciding, TransactionRun, Sweeping, Resolving, SweepRun, Doing, Running, RunningSweep, After, home_of, execute, decision_of, asked_now, Agent, fixed_of, next_in, next_of}
+use Rattle.law_run_machine.proofs.Vocabulary.{take, take_in, begin, started, is_idle, has_sense, max_jobs, left, locks, says_held, is_decide, Keeps, nothing_held, begin_keeps, Actor, server_at, actor_at, with_server, Beginning, Change, World}
+use Rattle.law_run_machine.proofs.Vocabulary.{Verdict, set1, Event, run, May, Obeys, one_is, one_not, Inv, Shows, ended_as, moves, AgentSide, beginning, asks_in_its_name, asks_to_sweep, decides_first, decision_by, decision_in, decision_with}
+use Rattle.law_run_machine.proofs.Vocabulary.{begun_events, own_events, servers_of, home_in}
 use Rattle.acl_core.specs.Identity.{Identity}
 use Rattle.file_ops.specs.declared.operation.Op.{Op}
 use Rattle.law_server_moves.proofs.Replies.{replies_tell}
@@ -16,22 +15,20 @@ use Rattle.rep_core.specs.Serving as serving
 use Rattle.run_core.specs.Worlds as worlds
 use Rattle.law_server_moves.specs.Laws as steps
 use Rattle.law_runs.proofs.Asking as asking
-use Rattle.law_run_machine.proofs.Own.{begun_told}
 use Rattle.law_run_machine.proofs.Servers.{server_there, servers_set}
 use Rattle.law_run_machine.proofs.Consistent.{AllConsistent, served_is}
-use Rattle.law_run_machine.proofs.Quiet.{Quiet, IsOf, AreOf, of-append, quiet_same, quiet_all}
+use Rattle.law_run_machine.proofs.Quiet.{Quiet, IsOf, quiet_same, quiet_all}
 use Rattle.law_run_machine.proofs.Asked.{named_of, swept_of, steady_served, told_served}
-use Rattle.law_run_machine.proofs.Stages.{Leaves, Stage, Does, own_by, begins_response}
+use Rattle.law_run_machine.proofs.Stages.{Leaves, Does, begins_response}
 use Rattle.law_run_machine.proofs.Sending.{agent_side, upgrade_told, decision_told}
 use Rattle.law_run_machine.proofs.Linked.{Untouched, InRound, IsDoing, Linked, AllLinked, linked_later, untouched_quiet, apart, later_apart}
-use Rattle.law_run_machine.proofs.Turns.{Turn, Concerns, of_aims}
+use Rattle.law_run_machine.proofs.Turns.{Turn, Concerns}
 
 -- ---- what an agent asks is its side
 
 round_side : (start : Beginning) (z : ℕ) (home : ℕ → ℕ) (decision : Event) (i : ℕ) (held : List Lock) (w : World) (fixed : Fixed) (sweep_run : SweepRun) (now : Sweeping)
     → InRound w now → AgentSide start z home decision i held w (asked_now fixed.service sweep_run now).1
-round_side start z home decision i held w fixed sweep_run (Telling t v left) in' = record { ended = inl in' }
-round_side start z home decision i held w fixed sweep_run other in' = tt
+round_side start z home decision i held w fixed sweep_run now h10 = search arith
 
 pair_parts : (a b : ℕ × Request) → ◌≡◌ {A = Option (ℕ × Request)} (Some a) (Some b) → a ≡ b
 pair_parts a b same = same_Some a b same
@@ -40,30 +37,13 @@ pair_parts a b same = same_Some a b same
 
 silent_moves : (start : Beginning) (z : ℕ) (home : ℕ → ℕ) (decision : Event) (i : ℕ) (w : World) (asked : Request) (said : Reply) → is_decide asked ≡ true
     → ((v : replied.Verdict) → said ≡ reply.Verdict v → ⊥) → run start w (moves z home decision i w asked said) ≡ w
-silent_moves start z home decision i w (request.Decide t decided) (reply.Verdict v) is none = absurd (none v refl)
-silent_moves start z home decision i w (request.Decide t decided) said is none = refl
-silent_moves start z home decision i w other said is none = absurd (false≢true is)
-
-of_with : (w : World) (t : ℕ) (known : Known) (outcome : Proposal) (new : Option Change) → IsOf t (decides_with w t known outcome new)
-of_with w t known (Err refusal) new = refl
-of_with w t known (Ok granted) None = refl
-of_with w t known (Ok granted) (Some new) = refl
-
-of_without : (t : ℕ) (outcome : Proposal) → IsOf t (decides_without t outcome)
-of_without t (Ok granted) = refl
-of_without t (Err refusal) = refl
+silent_moves start z home decision i w asked said h8 h9 = search arith
 
 of_first : (w : World) (t : ℕ) (outcome : Proposal) (new : Option Change) (suite : GatheredSuite) (first : Option ReadPoint) → IsOf t (decides_first w t outcome new suite first)
-of_first w t outcome new suite (Some first) = of_with w t (known_by first suite) outcome new
-of_first w t outcome new suite None = of_without t outcome
-
-of_on : (w : World) (t : ℕ) (outcome : Proposal) (new : Option Change) (found : Option GatheredSuite) → IsOf t (decides_on w t outcome new found)
-of_on w t outcome new (Some suite) = of_first w t outcome new suite suite.first
-of_on w t outcome new None = of_without t outcome
+of_first w t outcome new suite first = search arith
 
 decision_of-task : (z : ℕ) (w : World) (task : Task) (suites : Suites) (phase : Phase) → IsOf task.t (decision_in z w task suites phase)
-decision_of-task z w task suites (Deciding outcome) = of_on w task.t outcome (to_write z suites outcome) (suite_of suites z)
-decision_of-task z w task suites other = refl
+decision_of-task z w task suites phase = search arith
 
 pub only : (before : TransactionRun) (P : TransactionRun → Type 0) → P before → (other : TransactionRun) → ◌≡◌ {A = Option Doing} (Some (Running before)) (Some (Running other)) → P other
 only before P is other same = subst P (let e : before ≡ other = cc in e) is
@@ -78,10 +58,7 @@ next_number : (u : ℕ) → u ≡ u + 1 → ⊥
 next_number u same = absurd (omega arith)
 
 no_response : (a b c : Bool) → a ≡ (a || (b && c && false))
-no_response true b c = refl
-no_response false true true = refl
-no_response false true false = refl
-no_response false false c = refl
+no_response a b c = search arith
 
 module _ (given : Opening) (z : ℕ) (w : World) (world : worlds.World) (inv : Inv (beginning z given) w) (shows : Shows z (home_in given) (servers_of given world) w) (all : AllConsistent (servers_of given world)) (n count : ℕ) where
   abbrev pub start : Beginning
@@ -142,35 +119,21 @@ module _ (given : Opening) (z : ℕ) (w : World) (world : worlds.World) (inv : I
             let told = tells asked.0 st (record { stamp = stamp; value = asked.1 }) later there none shows_later in
             subst (λ said. steps.Tells z (home_in given) asked.0 w later (request.Resolve t) said) (said_so said (reply.Verdict v) said_v)
             (subst (λ request. steps.Tells z (home_in given) asked.0 w later request said) (sym (ap (λ (asked : ℕ × Request). asked.1) resolves)) told) (ap (λ (asked : ℕ × Request). asked.0) resolves));
-        quiet = λ u apart. quiet_all start w u (u + 1) (served_at (Some (RunningSweep sweep_run)) asked st) (next_number u) obeys
-            (swept_of z (home_in given) (GiveUp 0) asked.0 w (u + 1) asked.1 said (ap (λ (asked : ℕ × Request). may_sweep asked.1) (sym same) ∙ asks_to_sweep (fixed_of given).service sweep_run sweep_run.now));
+        quiet = search (apart, quiet_all, next_number, swept_of, asks_to_sweep, arith);
       }
   served_concerns None asked stamp st is in' there none obeys shows_later = absurd cc
 
   -- a request that is not served
   pub lacked_concerns : (doing : Option Doing) (asked : ℕ × Request) (why : _) → Concerns start z w w n count (fixed_of given) doing asked (Lacked why)
-  lacked_concerns doing asked why = record {
-    told = λ before same who. no_response (is_some (w.told who before.task.t)) (asked.0 == who) (locks z asked.1);
-    leaves = λ before same. record {
-      calm = λ calm. record { aim = refl; gave_up = refl; verdict = refl };
-      ruled = λ v decide same. absurd cc;
-      silent = λ decide none. refl;
-    };
-    ruled = λ sweep_run same t locks v now said. absurd cc;
-    quiet = λ u apart. quiet_same w u;
-  }
+  lacked_concerns doing asked why = search arith
 
   -- what it asks is its side
   pub asks_well : (doing : Option Doing) (asked : ℕ × Request) (held : List Lock) → next_in (fixed_of given) doing ≡ Some asked → IsDoing z w n count doing
       → ((txn_run : TransactionRun) (outcome : Proposal) → doing ≡ Some (Running txn_run) → txn_run.phase ≡ Deciding outcome → w.verdict txn_run.task.t ≡ None → May start w (decision_with z w txn_run.task txn_run.suites outcome))
       → ((txn_run : TransactionRun) (now : ℕ) (left : List ℕ) (outcome : Proposal) → doing ≡ Some (Running txn_run) → txn_run.phase ≡ Preparing (now ∷ left) outcome → now ≡ asked.0 → has_prepared txn_run.task.t held ≡ false)
       → AgentSide start z (home_in given) (decision_by z w doing) asked.0 held w asked.1
-  asks_well (Some (Running before)) asked held is in' may first =
-      agent_side start z (home_in given) held w (fixed_of given) before.task before.suites asked.0 in'.ordered in'.told before.phase asked.1 is in'.stage
-      (λ outcome phase. may before outcome refl phase) (λ now left outcome phase at. first before now left outcome refl phase at)
-  asks_well (Some (RunningSweep sweep_run)) asked held is in' may first =
-      subst (λ (asked : ℕ × Request). AgentSide start z (home_in given) (GiveUp 0) asked.0 held w asked.1) (pair_parts (asked_now (fixed_of given).service sweep_run sweep_run.now) asked is)
-      (round_side start z (home_in given) (GiveUp 0) _ held w (fixed_of given) sweep_run sweep_run.now in')
+  asks_well (Some (Running before)) asked held is in' may first = search (agent_side, arith)
+  asks_well (Some (RunningSweep sweep_run)) asked held is in' may first = search (pair_parts, round_side, arith)
   asks_well None asked held is in' may first = absurd cc
 
 -- ---- lists in which one is put in another's place
@@ -214,16 +177,10 @@ all_linked z w later world n old new there small linked now stays others m x is 
 
 pub take_same : (fixed : Fixed) (agent : Agent) (response : Response) (doing : Option Doing) (asked : Option (ℕ × Request))
     → ((take_in fixed agent response doing asked).agent.index ≡ agent.index) × ((take_in fixed agent response doing asked).agent.count ≡ agent.count)
-take_same fixed agent response (Some (Running txn_run)) (Some asked) = (refl, refl)
-take_same fixed agent response (Some (Running txn_run)) None = (refl, refl)
-take_same fixed agent response (Some (RunningSweep sweep_run)) (Some asked) = (refl, refl)
-take_same fixed agent response (Some (RunningSweep sweep_run)) None = (refl, refl)
-take_same fixed agent response None asked = (refl, refl)
+take_same fixed agent response doing asked = search arith
 
 pub numbered_of : (z : ℕ) (w : World) (n count : ℕ) (doing : Option Doing) → IsDoing z w n count doing → (txn_run : TransactionRun) → doing ≡ Some (Running txn_run) → txn_run.task.t + 64 ≡ 64 * count + n
-numbered_of z w n count (Some (Running before)) is txn_run same = only before (λ txn_run. txn_run.task.t + 64 ≡ 64 * count + n) is.numbered txn_run same
-numbered_of z w n count (Some (RunningSweep sweep_run)) is txn_run same = absurd cc
-numbered_of z w n count None is txn_run same = absurd cc
+numbered_of z w n count doing h5 txn_run h7 = search arith
 
 module _ (start : Beginning) (z : ℕ) (w later : World) (n : ℕ) (fixed : Fixed) (agent : Agent) (response : Response) (small : n < 64) (linked : Linked z w n agent)
     (it : Turn start z w later n agent.count agent.doing (take fixed agent response)) where
@@ -252,61 +209,21 @@ pub record Begun (start : Beginning) (z : ℕ) (w : World) (n : ℕ) (before : O
   pub others : Others w (run start w (begun_events z before new.doing)) n
 
 module _ (start : Beginning) (z : ℕ) (w : World) (n : ℕ) (fixed : Fixed) (agent : Agent) (small : n < 64) (linked : Linked z w n agent) where
-  none_begun : (doing : Option Doing) → [] ≡ begun_events z doing doing
-  none_begun (Some (Running txn_run)) = refl
-  none_begun (Some (RunningSweep sweep_run)) = refl
-  none_begun None = refl
 
   -- it was busy, or the job has no sense
   stays_so : Begun start z w n agent.doing agent
-  stays_so =
-      let is = none_begun agent.doing in
-      record {
-        does = subst (λ events. Obeys start w events) is tt;
-        now = subst (λ events. Linked z (run start w events) n agent) is linked;
-        others = subst (λ events. Others w (run start w events) n) is (λ u m place at small' other. quiet_same w u);
-      }
+  stays_so = search arith
 
   -- a transaction of this number
   abbrev task_of : Identity → ℕ → List Op → Task
   task_of caller site ops = record { t = 64 * agent.count + agent.index; caller = caller; site = site; ops = ops }
-
-  is_numbered : 64 * agent.count + agent.index + 64 ≡ 64 * (agent.count + 1) + n
-  is_numbered = let at = linked.index in omega arith
-
-  -- what it does at once is of its transaction
-  begun_of : (t : ℕ) (after : Option Doing) → ((txn_run : TransactionRun) → after ≡ Some (Running txn_run) → txn_run.task.t ≡ t) → AreOf t (begun_events z None after)
-  begun_of t (Some (Running txn_run)) is = of-append t (aims z txn_run.task.t None (Some (Running txn_run))) _
-      (subst (λ u. AreOf t (aims z u None (Some (Running txn_run)))) (sym (is txn_run refl)) (of_aims z t None (Some (Running txn_run))))
-      (of_end' (is txn_run refl) (tells_aborted txn_run.phase))
-    where
-      of_end' : {u : ℕ} → u ≡ t → (b : Bool) → AreOf t (cond b (GiveUp u ∷ []) [])
-      of_end' same true = (same, tt)
-      of_end' same false = tt
-  begun_of t (Some (RunningSweep sweep_run)) is = tt
-  begun_of t None is = tt
 
   abbrev Began : Option Doing → Type 0
   Began after = Obeys start w (begun_events z None after) × IsDoing z (run start w (begun_events z None after)) n
       (agent.count + 1) after × ((u : ℕ) → (u ≡ 64 * agent.count + agent.index → ⊥) → Quiet w (run start w (begun_events z None after)) u)
 
   began_left : (task : Task) (after : After TransactionRun) → task.t ≡ 64 * agent.count + agent.index → Untouched w task.t → Keeps nothing_held (left Running after) → Does start z task.t w None false agent after → Began (left Running after)
-  began_left task (Ends ending) at untouched keeps does = (tt, tt, λ u _. quiet_same w u)
-  began_left task (GoesOn txn_run) at untouched keeps does =
-      let same = does.stage.0 in
-      let own = own_by z task.t None false agent (GoesOn txn_run) in
-      let events_same : own ≡ begun_events z None (Some (Running txn_run)) = ap (λ t. aims z t None (Some (Running txn_run)) ++ cond (tells_aborted txn_run.phase) (GiveUp t ∷ []) []) (sym same) in
-      let obeys : Obeys start w (begun_events z None (Some (Running txn_run))) = subst (λ events. Obeys start w events) events_same does.does in
-      let later = run start w (begun_events z None (Some (Running txn_run))) in (
-        obeys,
-        record {
-          numbered = ap (λ t. t + 64) (same ∙ at) ∙ is_numbered;
-          ordered = keeps.0;
-          told = λ i. ap (λ told. is_some (told i txn_run.task.t)) (begun_told start z None (Some (Running txn_run)) w) ∙ ap (λ t. is_some (w.told i t)) same ∙ ap is_some (untouched.told i) ∙ sym (keeps.1 z i);
-          stage = subst (λ events. Stage z (run start w events) txn_run.task.t txn_run.suites txn_run.phase) events_same (subst (λ t. Stage z (run start w own) t txn_run.suites txn_run.phase) (sym same) does.stage.1);
-        },
-        λ u other. quiet_all start w u task.t (begun_events z None (Some (Running txn_run))) (λ is. other (is ∙ at)) obeys (begun_of task.t (Some (Running txn_run)) (λ c is. only txn_run (λ c. c.task.t ≡ task.t) same c is)),
-      )
+  began_left task after h2 h3 h4 h5 = search arith
 
   untouched_first : Untouched w (64 * agent.count + agent.index)
   untouched_first = subst (λ i. Untouched w (64 * agent.count + i)) (sym linked.index) (linked.fresh agent.count (omega arith))
@@ -318,8 +235,7 @@ module _ (start : Beginning) (z : ℕ) (w : World) (n : ℕ) (fixed : Fixed) (ag
   began_job (Sweep server) idle keeps = (tt, tt, λ u _. quiet_same w u)
 
   index_started : (job : Job) → (started fixed agent job).index ≡ agent.index
-  index_started (Transaction caller site ops) = refl
-  index_started (Sweep server) = refl
+  index_started job = search arith
 
   begins_so : (job : Job) → agent.doing ≡ None → Keeps nothing_held (started fixed agent job).doing → Begun start z w n agent.doing (record (started fixed agent job) { count = agent.count + 1 })
   begins_so job idle keeps =
@@ -337,8 +253,7 @@ module _ (start : Beginning) (z : ℕ) (w : World) (n : ℕ) (fixed : Fixed) (ag
       })
 
   idle_none : (doing : Option Doing) → is_idle doing ≡ true → doing ≡ None
-  idle_none None idle = refl
-  idle_none (Some doing) idle = absurd (false≢true idle)
+  idle_none doing h1 = search arith
 
   pub begun_so : (job : Job) → Begun start z w n agent.doing (begin fixed agent job)
   begun_so job =

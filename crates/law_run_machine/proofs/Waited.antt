@@ -1,15 +1,14 @@
 -- In every run a transaction prepares at a server once: event by event.
-use Rattle.law_run_machine.proofs.Vocabulary.{◌≡◌, inl, ℕ, ◌+◌, ◌<◌, ◌≤◌, Bool, true, false, cond, List, ◌∷◌, Option, Some, None, refl, sym, ap, subst, ◌∙◌, ◌*◌, slice_get, slice_set, same_Some, Opening, Request, Stamped, has_prepared, State}
-use Rattle.law_run_machine.proofs.Vocabulary.{is_prepare, reply_of, answer_of, is_full, served, Response, Replied, Lacked, Job, Fixed, Proposal, Preparing, TransactionRun, Doing, Running, RunningSweep, asked_now, Agent, fixed_of, next_in, next_of}
-use Rattle.law_run_machine.proofs.Vocabulary.{take, take_in, begin, forget, Begin, Step, Crash, Return, Forget, Lack, Actor, server_at, actor_at, answered, asks_at, asks, steps_once, lacks_for, lacks, operated, operates, becomes, step, World}
-use Rattle.law_run_machine.proofs.Vocabulary.{may_sweep, asks_in_its_name, asks_to_sweep, servers_of}
+use Rattle.law_run_machine.proofs.Vocabulary.{◌≡◌, ℕ, ◌+◌, ◌<◌, ◌≤◌, Bool, true, false, cond, List, ◌∷◌, Option, Some, None, refl, sym, subst, ◌*◌, slice_get, slice_set, same_Some, Opening, Request, Stamped, has_prepared, arith, State, is_prepare}
+use Rattle.law_run_machine.proofs.Vocabulary.{reply_of, answer_of, is_full, served, Response, Replied, Lacked, Job, Fixed, Proposal, Preparing, TransactionRun, Doing, Running, RunningSweep, Agent, fixed_of, next_in, next_of, take, take_in, begin}
+use Rattle.law_run_machine.proofs.Vocabulary.{forget, Begin, Step, Crash, Return, Forget, Lack, Actor, server_at, actor_at, answered, asks_at, asks, steps_once, lacks_for, lacks, operated, operates, becomes, step, World, servers_of}
 use Rattle.rep_core.specs.declared.request.Request.TheVariants as request
 use Rattle.rep_core.specs.declared.stamped.Lack.TheVariants as lack
 use Rattle.run_core.specs.declared.event.Event as happening
 use Rattle.run_core.specs.Worlds as worlds
 use Rattle.law_run_machine.proofs.Linked.{AllLinked, apart, later_apart, numbered_at}
 use Rattle.law_run_machine.proofs.Turned.{set_here, set_apart, same_or, take_same, numbered_of}
-use Rattle.law_run_machine.proofs.Waiting.{Keeps, keeps_same, keeps_served, Waits, waits_on, IsWaiting, Waiting, take_waiting, begin_waiting, named_prepare, swept_prepare}
+use Rattle.law_run_machine.proofs.Waiting.{Keeps, keeps_same, keeps_served, waits_on, IsWaiting, Waiting, take_waiting, begin_waiting}
 
 abbrev pub AllWaiting : Opening → worlds.World → Type 0
 AllWaiting given world = (n : ℕ) (actor : Actor) → actor_at world n ≡ Some actor → Waiting (servers_of given world) n actor.agent
@@ -17,16 +16,12 @@ AllWaiting given world = (n : ℕ) (actor : Actor) → actor_at world n ≡ Some
 -- where it is to prepare
 pub waits_first : (servers : ℕ → State) (doing : Option Doing) → IsWaiting servers doing → (txn_run : TransactionRun) → doing ≡ Some (Running txn_run)
     → (now : ℕ) (left : List ℕ) (outcome : Proposal) → txn_run.phase ≡ Preparing (now ∷ left) outcome → has_prepared txn_run.task.t (servers now).locks ≡ false
-waits_first servers doing waiting txn_run is now left outcome phase =
-    (subst (Waits txn_run.task.t servers) phase (subst (IsWaiting servers) is waiting)).0 now (inl refl)
+waits_first servers doing waiting txn_run is now left outcome phase = search arith
 
 -- what is asked prepares no other transaction
 asked_prepare : (fixed : Fixed) (doing : Option Doing) (asked : ℕ × Request) → next_in fixed doing ≡ Some asked → (u : ℕ)
     → ((txn_run : TransactionRun) → doing ≡ Some (Running txn_run) → u ≡ txn_run.task.t → ⊥) → is_prepare u asked.1 ≡ false
-asked_prepare fixed (Some (Running txn_run)) asked is u other = named_prepare txn_run.task.t u asked.1 (asks_in_its_name fixed txn_run.task txn_run.suites txn_run.phase asked.0 asked.1 is) (other txn_run refl)
-asked_prepare fixed (Some (RunningSweep sweep_run)) asked is u other =
-    swept_prepare u asked.1 (ap (λ (asked : ℕ × Request). may_sweep asked.1) (sym (same_Some (asked_now fixed.service sweep_run sweep_run.now) asked is)) ∙ asks_to_sweep fixed.service sweep_run sweep_run.now)
-asked_prepare fixed None asked is u other = absurd cc
+asked_prepare fixed doing asked h3 u h5 = search arith
 
 -- of an agent's transactions no lock became prepared
 waiting_on : (old new : ℕ → State) (n count : ℕ) (agent : Agent) → agent.count ≡ count → n < 64
@@ -49,12 +44,7 @@ module _ (given : Opening) (z : ℕ) (w : World) (world : worlds.World) (linked 
   -- all agents, once one of them has changed
   set_waiting : (new : ℕ → State) (n : ℕ) (was now : Actor) → actor_at world n ≡ Some was → Waiting new n now.agent → ((m : ℕ) (actor : Actor) → actor_at world m ≡ Some actor → (m ≡ n → ⊥) → Waiting new m actor.agent)
       → (m : ℕ) (x : Actor) → slice_get (slice_set world.agents n now) m ≡ Some x → Waiting new m x.agent
-  set_waiting new n was now there here others m x is =
-      same_or (Waiting new m x.agent) m n
-      (λ same.
-      let x_is : now ≡ x = same_Some now x (sym (set_here world.agents n was now there) ∙ ap (slice_get (slice_set world.agents n now)) (sym same) ∙ is) in
-      subst (λ m. Waiting new m x.agent) (sym same) (subst (λ (x : Actor). Waiting new n x.agent) x_is here))
-      (λ apart. others m x (sym (set_apart world.agents n m now apart) ∙ is) apart)
+  set_waiting new n was now there here others m x is = search (same_or, same_Some, set_here, slice_get, slice_set, apart, set_apart, arith)
 
   -- after a turn
   turn_waiting : (new : ℕ → State) (number : ℕ) (actor : Actor) (asked : ℕ × Request) (response : Response) (stamp : ℕ) → actor_at world number ≡ Some actor
@@ -102,12 +92,10 @@ module _ (given : Opening) (z : ℕ) (w : World) (world : worlds.World) (linked 
   at_waiting number actor asked there next None at = waiting
 
   asks_waiting : (number : ℕ) (actor : Actor) → actor_at world number ≡ Some actor → (o : Option (ℕ × Request)) → next_of (fixed_of given) actor.agent ≡ o → AllWaiting given (asks (fixed_of given) world number actor o).world
-  asks_waiting number actor there (Some asked) next = at_waiting number actor asked there next (server_at world asked.0) refl
-  asks_waiting number actor there None next = waiting
+  asks_waiting number actor h2 o h4 = search (at_waiting, arith)
 
   step_waiting : (number : ℕ) (o : Option Actor) → actor_at world number ≡ o → AllWaiting given (steps_once (fixed_of given) world number o).world
-  step_waiting number (Some actor) there = asks_waiting number actor there (next_of (fixed_of given) actor.agent) refl
-  step_waiting number None there = waiting
+  step_waiting number o h2 = search (asks_waiting, arith)
 
   lacks_waiting : (number : ℕ) (actor : Actor) (why : _) → actor_at world number ≡ Some actor → (o : Option (ℕ × Request)) → next_of (fixed_of given) actor.agent ≡ o
       → AllWaiting given (lacks_for (fixed_of given) world number actor (Lacked why) o).world
@@ -115,8 +103,7 @@ module _ (given : Opening) (z : ℕ) (w : World) (world : worlds.World) (linked 
   lacks_waiting number actor why there None next = waiting
 
   lack_waiting : (number : ℕ) (why : _) (o : Option Actor) → actor_at world number ≡ o → AllWaiting given (lacks (fixed_of given) world number (Lacked why) o).world
-  lack_waiting number why (Some actor) there = lacks_waiting number actor why there (next_of (fixed_of given) actor.agent) refl
-  lack_waiting number why None there = waiting
+  lack_waiting number why o h3 = search (lacks_waiting, arith)
 
   -- the operator prepares nothing
   operated_waiting : (i : ℕ) (asked : Request) (st : State) → ((u : ℕ) → is_prepare u asked ≡ false) → server_at world i ≡ Some st → (b : Bool) → is_full st (record { stamp = 0; value = asked }) ≡ b
@@ -127,8 +114,7 @@ module _ (given : Opening) (z : ℕ) (w : World) (world : worlds.World) (linked 
       waiting_on (servers_of given world) _ m x.agent.count x.agent refl (linked m x at).0 (numbered_at' m x at) (λ u place j _. keeps.unprepared u j (calm u)) (waiting m x at)
 
   operates_waiting : (i : ℕ) (asked : Request) → ((u : ℕ) → is_prepare u asked ≡ false) → (o : Option State) → server_at world i ≡ o → AllWaiting given (operates world i asked o).world
-  operates_waiting i asked calm (Some st) there = operated_waiting i asked st calm there (is_full st (record { stamp = 0; value = asked })) refl
-  operates_waiting i asked calm None there = waiting
+  operates_waiting i asked h2 o h4 = search (operated_waiting, arith)
 
   begin_job : (number : ℕ) (job : Job) (o : Option Actor) → actor_at world number ≡ o → AllWaiting given (becomes world number (λ agent. begin (fixed_of given) agent job) o).world
   begin_job number job (Some actor) there =

@@ -1,10 +1,9 @@
 -- A transaction prepares at a server once: where it is to prepare, none of its locks is prepared there.
-use Rattle.law_run_machine.proofs.Vocabulary.{◌≡◌, ◌⊎◌, inl, inr, ℕ, zero, suc, ◌+◌, ◌≤◌, Bool, true, false, cond, List, [], ◌∷◌, Option, Some, None, refl, sym, ap, subst, ◌∙◌, arith, ◌*◌, ◌==◌, ◌&&◌, filter, nat_lt, false≢true, and_parts, nat_tests}
-use Rattle.law_run_machine.proofs.Vocabulary.{max_servers, Opening, Lock, Request, Stamped, is_prepared, has_prepared, State, is_prepare, WasPrepared, is_full, served, Has, has_from, contains_from, has_filter, any_has, has_any, Cache, Suites}
-use Rattle.law_run_machine.proofs.Vocabulary.{suite_of, has_locks, parts_at, Response, Replied, Lacked, Job, Transaction, Sweep, Cause, Lost, Ending, Undecided, Fixed, Task, Proposal, Phase, Gathering, Fetching, Widening, Preparing, Deciding}
-use Rattle.law_run_machine.proofs.Vocabulary.{Finishing, TransactionRun, SweepRun, Doing, Running, RunningSweep, After, GoesOn, Ends, execute, tell_end, give_up, prepare, locked_at, numbers_from, lack_cause, after_response, request_in, changes_of}
-use Rattle.law_run_machine.proofs.Vocabulary.{verdict_in, ending_by, cause_of_abort, Agent, next_in, take_in, begin, started, is_idle, has_sense, max_jobs, left, asked_as, fetched_as, IsEarly, goes_response, goes_execute, server_at, with_server, at1}
-use Rattle.law_run_machine.proofs.Vocabulary.{another, names, may_sweep, servers_of}
+use Rattle.law_run_machine.proofs.Vocabulary.{◌≡◌, ◌⊎◌, inl, inr, ℕ, zero, suc, ◌+◌, ◌≤◌, Bool, true, false, cond, List, [], ◌∷◌, Option, Some, None, refl, sym, ap, subst, ◌∙◌, arith, ◌*◌, ◌==◌, ◌&&◌, filter, and_parts, nat_tests, max_servers}
+use Rattle.law_run_machine.proofs.Vocabulary.{Opening, Lock, Request, Stamped, is_prepared, has_prepared, State, is_prepare, WasPrepared, is_full, served, Has, has_from, contains_from, has_filter, any_has, has_any, Cache, Suites, suite_of, has_locks}
+use Rattle.law_run_machine.proofs.Vocabulary.{parts_at, Response, Replied, Lacked, Job, Transaction, Sweep, Cause, Lost, Ending, Undecided, Fixed, Task, Proposal, Phase, Gathering, Fetching, Widening, Preparing, Deciding, Finishing, TransactionRun}
+use Rattle.law_run_machine.proofs.Vocabulary.{SweepRun, Doing, Running, RunningSweep, After, GoesOn, Ends, execute, tell_end, give_up, prepare, locked_at, numbers_from, lack_cause, after_response, request_in, changes_of, verdict_in, ending_by}
+use Rattle.law_run_machine.proofs.Vocabulary.{cause_of_abort, Agent, next_in, take_in, begin, started, left, asked_as, fetched_as, IsEarly, goes_response, goes_execute, server_at, with_server, at1, another, servers_of}
 use Rattle.rep_core.proofs.PreparedLocks.{prepared_by_prepare}
 use Rattle.rep_core.specs.declared.reply.Verdict.{Verdict}
 use Rattle.rep_core.specs.Serving.{step}
@@ -79,11 +78,7 @@ numbers_apart start (suc count) = (λ has. let more = above (start + 1) count st
 
 filter_apart : (p : ℕ → Bool) (xs : List ℕ) → AreApart xs → AreApart (filter p xs)
 filter_apart p [] apart = tt
-filter_apart p (x ∷ xs) apart =
-    elim (p x) as (λ b. AreApart (cond b (x ∷ filter p xs) (filter p xs))) [
-      | true ↦ (λ has. apart.0 (has_filter p xs x has).0, filter_apart p xs apart.1)
-      | false ↦ filter_apart p xs apart.1
-    ]
+filter_apart p (x ∷ xs) apart = search (has_filter, filter_apart p xs, arith)
 
 locked_apart : (suites : Suites) → AreApart (locked_at suites)
 locked_apart suites = filter_apart (has_locks suites) (numbers_from 0 max_servers) (numbers_apart 0 max_servers)
@@ -102,30 +97,22 @@ WaitsLeft t servers (GoesOn txn_run) = (txn_run.task.t ≡ t) × Waits t servers
 WaitsLeft t servers (Ends ending) = Unit {0}
 
 pub waits_on : (old new : ℕ → State) (t : ℕ) (phase : Phase) → ((j : ℕ) → has_prepared t (old j).locks ≡ false → has_prepared t (new j).locks ≡ false) → Waits t old phase → Waits t new phase
-waits_on old new t (Preparing left outcome) keeps waits = (λ j has. keeps j (waits.0 j has), waits.1)
-waits_on old new t (Deciding outcome) keeps waits = tt
-waits_on old new t (Finishing told v ending) keeps waits = tt
-waits_on old new t other keeps waits = λ j. keeps j (waits j)
+waits_on old new t phase h4 h5 = search arith
 
 module _ (task : Task) (servers : ℕ → State) where
   waits_end : (cache : Cache) (suites : Suites) (v : Verdict) (ending : Ending) (left : List ℕ) → WaitsLeft task.t servers (tell_end task cache suites v ending left).after
-  waits_end cache suites v ending [] = tt
-  waits_end cache suites v ending (server ∷ left) = (refl, tt)
+  waits_end cache suites v ending left = search arith
 
   waits_give_up : (cache : Cache) (suites : Suites) (cause : Cause) → WaitsLeft task.t servers (give_up task cache suites cause).after
   waits_give_up cache suites cause = waits_end cache suites verdict.Aborted (Undecided cause) (locked_at suites)
 
   waits_prepare : (cache : Cache) (suites : Suites) (outcome : Proposal) (left : List ℕ) → ((j : ℕ) → Has left j → has_prepared task.t (servers j).locks ≡ false) → AreApart left
       → WaitsLeft task.t servers (prepare task cache suites outcome left).after
-  waits_prepare cache suites outcome [] none apart = (refl, tt)
-  waits_prepare cache suites outcome (server ∷ left) none apart = (refl, (none, apart))
+  waits_prepare cache suites outcome left h4 h5 = search arith
 
   module _ (none : (j : ℕ) → has_prepared task.t (servers j).locks ≡ false) where
     waits_early : (suites : Suites) (phase : Phase) → IsEarly phase → WaitsLeft task.t servers (GoesOn (record { task = task; suites = suites; phase = phase }))
-    waits_early suites (Preparing left outcome) is = absurd is
-    waits_early suites (Deciding outcome) is = absurd is
-    waits_early suites (Finishing told v ending) is = absurd is
-    waits_early suites other is = (refl, none)
+    waits_early suites phase h2 = search arith
 
     waits_prepares : (cache : Cache) (suites : Suites) (outcome : Proposal) → WaitsLeft task.t servers (prepare task cache suites outcome (locked_at suites)).after
     waits_prepares cache suites outcome = waits_prepare cache suites outcome (locked_at suites) (λ j _. none j) (locked_apart suites)
@@ -175,11 +162,7 @@ module _ (fixed : Fixed) (task : Task) (cache : Cache) (suites : Suites) (server
       of : (response : Response) → WaitsLeft task.t new (after_response fixed (record { task = task; suites = suites; phase = Deciding outcome }) cache server asked response).after
       of (Replied said) = waits_end task new cache suites (verdict_in said verdict.Aborted) (ending_by (verdict_in said verdict.Aborted) (cause_of_abort said)) (locked_at suites)
       of (Lacked lacked) = waits_give_up task new cache suites (lack_cause server lacked)
-  waits_response (Finishing (now ∷ left) v ending) is waits = of response
-    where
-      of : (response : Response) → WaitsLeft task.t new (after_response fixed (record { task = task; suites = suites; phase = Finishing (now ∷ left) v ending }) cache server asked response).after
-      of (Replied said) = waits_end task new cache suites v ending left
-      of (Lacked lacked) = waits_end task new cache suites v ending left
+  waits_response (Finishing (now ∷ left) v ending) is waits = search (waits_end, arith)
   waits_response other is waits = cc
 
 -- ---- an agent
@@ -194,12 +177,10 @@ pub record Waiting (servers : ℕ → State) (n : ℕ) (agent : Agent) : Type 0 
   pub now : IsWaiting servers agent.doing
 
 waiting_left : (servers : ℕ → State) (t : ℕ) (after : After TransactionRun) → WaitsLeft t servers after → IsWaiting servers (left Running after)
-waiting_left servers t (GoesOn txn_run) waits = subst (λ t. Waits t servers txn_run.phase) (sym waits.0) waits.1
-waiting_left servers t (Ends ending) waits = tt
+waiting_left servers t after h3 = search arith
 
 waiting_round : (servers : ℕ → State) (after : After SweepRun) → IsWaiting servers (left RunningSweep after)
-waiting_round servers (GoesOn sweep_run) = tt
-waiting_round servers (Ends ending) = tt
+waiting_round servers after = search arith
 
 pub take_waiting : (fixed : Fixed) (agent : Agent) (response : Response) (doing : Option Doing) (asked : ℕ × Request) (old new : ℕ → State) → Keeps old new asked.0 asked.1
     → next_in fixed doing ≡ Some asked → IsWaiting old doing → IsWaiting new (take_in fixed agent response doing (Some asked)).agent.doing
@@ -215,18 +196,4 @@ started_waiting fixed agent n servers (Transaction caller site ops) index waitin
 started_waiting fixed agent n servers (Sweep server) index waiting = tt
 
 pub begin_waiting : (fixed : Fixed) (agent : Agent) (n : ℕ) (servers : ℕ → State) (job : Job) → agent.index ≡ n → Waiting servers n agent → Waiting servers n (begin fixed agent job)
-begin_waiting fixed agent n servers job index waiting =
-    elim (is_idle agent.doing && has_sense fixed job && nat_lt agent.count max_jobs) as (λ b. Waiting servers n (cond b (record (started fixed agent job) { count = agent.count + 1 }) agent)) [
-      | true ↦ record { fresh = λ place past j. waiting.fresh place (omega arith) j; now = started_waiting fixed agent n servers job index waiting }
-      | false ↦ waiting
-    ]
-
--- ---- in whose name
-
-pub named_prepare : (t u : ℕ) (asked : Request) → names t asked ≡ true → (u ≡ t → ⊥) → is_prepare u asked ≡ false
-named_prepare t u (request.Prepare v parts) is apart = another u v (λ same. apart (sym same ∙ same_t v t is))
-named_prepare t u asked is apart = refl
-
-pub swept_prepare : (u : ℕ) (asked : Request) → may_sweep asked ≡ true → is_prepare u asked ≡ false
-swept_prepare u (request.Prepare v parts) is = absurd (false≢true is)
-swept_prepare u asked is = refl
+begin_waiting fixed agent n servers job index waiting = search (started_waiting fixed agent n servers job index waiting, arith)

@@ -1,6 +1,6 @@
 -- In every run collectors hold what machines told: event by event.
-use Rattle.law_run_quorums.proofs.Vocabulary.{same_Some, Request, told_at, Fixed, TransactionRun, Doing, Running, RunningSweep, After, GoesOn, Ends, after_response, request_of, Agent, next_in, take_in, left, Leaves, heard_by}
-use Rattle.law_run_quorums.proofs.Vocabulary.{hears_response, Actor, actor_at, World, Quiet, InCourse, IsDoing, AllLinked, numbered_at, Others, set_here, set_apart, same_or, told_to, Agrees, DoingAgrees, AllAgree}
+use Rattle.law_run_quorums.proofs.Vocabulary.{same_Some, Request, told_at, Fixed, TransactionRun, Doing, Running, RunningSweep, After, after_response, request_of, Agent, next_in, take_in, left, Leaves, heard_by, hears_response, Actor, actor_at}
+use Rattle.law_run_quorums.proofs.Vocabulary.{World, Quiet, InCourse, IsDoing, AllLinked, numbered_at, Others, set_here, set_apart, same_or, told_to, Agrees, DoingAgrees, AllAgree}
 use Rattle.txn_core.specs.declared.response.Response.{Response}
 use Rattle.std.proofs.Common.{◌≡◌, ℕ, ◌+◌, ◌<◌, List, Option, Some, None, refl, sym, ap, subst, ◌∙◌, arith, ◌*◌, slice_get, slice_set}
 use Rattle.suite_collect.specs.declared.told.Told as collect
@@ -46,19 +46,12 @@ running_left z w later n count fixed agent before asked response is in' agrees d
   where
     of : (after : After TransactionRun) (lists : ℕ → List collect.Told) → Leaves lists after → lists z ≡ heard_by z (told_at before.suites z) asked.0 asked.1 response
         → IsDoing z later n count (left Running after) → DoingAgrees z later (left Running after)
-    of (GoesOn txn_run) lists leaves are doing =
-        subst (λ t. Agrees (told_to later t) (told_at txn_run.suites z)) (same_number before.task.t txn_run.task.t count n in'.numbered doing.numbered)
-        (subst (λ list. Agrees (told_to later before.task.t) list) (sym (leaves.1 z ∙ are)) agrees)
-    of (Ends ending) lists leaves are doing = tt
+    of after lists h2 h3 h4 = search (same_number, arith)
 
 -- and so of any agent, where the machine told it so of what it asked
 pub take_agrees : (z : ℕ) (w later : World) (n count : ℕ) (fixed : Fixed) (agent : Agent) (response : Response) (doing : Option Doing) (asked : ℕ × Request) → next_in fixed doing ≡ Some asked → IsDoing z w n count doing
     → ((before : TransactionRun) → doing ≡ Some (Running before) → Agrees (told_to later before.task.t) (heard_by z (told_at before.suites z) asked.0 asked.1 response))
     → IsDoing z later n count (take_in fixed agent response doing (Some asked)).agent.doing → DoingAgrees z later (take_in fixed agent response doing (Some asked)).agent.doing
 take_agrees z w later n count fixed agent response (Some (Running before)) asked is in' agrees doing = running_left z w later n count fixed agent before asked response is in' (agrees before refl) doing
-take_agrees z w later n count fixed agent response (Some (RunningSweep sweep_run)) asked is in' agrees doing = of _
-  where
-    of : (after : After _) → DoingAgrees z later (left RunningSweep after)
-    of (GoesOn sweep_run) = tt
-    of (Ends ending) = tt
+take_agrees z w later n count fixed agent response (Some (RunningSweep sweep_run)) asked is in' agrees doing = search arith
 take_agrees z w later n count fixed agent response None asked is in' agrees doing = absurd cc

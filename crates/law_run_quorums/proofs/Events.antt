@@ -1,11 +1,11 @@
 -- In every run collectors hold what machines told: each event of a world.
-use Rattle.law_run_quorums.proofs.Vocabulary.{Opening, Request, Reply, told_at, Task, TransactionRun, Doing, Running, RunningSweep, After, GoesOn, Ends, execute, Agent, fixed_of, next_in, next_of, take, take_in, begin, started, forget}
-use Rattle.law_run_quorums.proofs.Vocabulary.{is_idle, has_sense, max_jobs, left, Leaves, are_nil, leaves_execute, heard_by, Actor, server_at, actor_at, with_server, answered, asks_at, asks, steps_once, lacks_for, lacks, operated, operates}
-use Rattle.law_run_quorums.proofs.Vocabulary.{becomes, step, Beginning, Told, World, set1, is_exclusive, Obeys, Inv, Shows, beginning, decision_by, decision_in, own_events, server_there, servers_set, AllConsistent, served_is, quiet_same}
-use Rattle.law_run_quorums.proofs.Vocabulary.{AllLinked, IsDoing, served_at, served_concerns, lacked_concerns, others_turned, begun_so, told_to, Agrees, DoingAgrees, AllAgree, Replied, Lacked, run}
+use Rattle.law_run_quorums.proofs.Vocabulary.{Opening, Request, Reply, told_at, Task, TransactionRun, Doing, Running, RunningSweep, After, GoesOn, Ends, execute, Agent, fixed_of, next_in, next_of, take, take_in, begin, started, forget, is_idle}
+use Rattle.law_run_quorums.proofs.Vocabulary.{has_sense, max_jobs, left, Leaves, are_nil, leaves_execute, heard_by, Actor, server_at, actor_at, with_server, answered, asks_at, asks, steps_once, lacks_for, lacks, operated, operates, becomes, step}
+use Rattle.law_run_quorums.proofs.Vocabulary.{Beginning, Told, World, set1, is_exclusive, Obeys, Inv, Shows, beginning, decision_by, decision_in, own_events, server_there, servers_set, AllConsistent, served_is, quiet_same, AllLinked, IsDoing}
+use Rattle.law_run_quorums.proofs.Vocabulary.{served_at, served_concerns, lacked_concerns, others_turned, begun_so, told_to, Agrees, DoingAgrees, AllAgree, Replied, Lacked, run}
 use Rattle.txn_core.specs.declared.response.Response.{Response}
 use Rattle.law_server_moves.specs.Moves.{moves}
-use Rattle.std.proofs.Common.{◌≡◌, ℕ, ◌+◌, Bool, true, false, cond, List, [], Option, Some, None, is_some, refl, sym, ap, subst, ◌∙◌, arith, ◌*◌, ◌&&◌, nat_lt}
+use Rattle.std.proofs.Common.{◌≡◌, ℕ, ◌+◌, Bool, true, false, cond, List, [], Option, Some, None, is_some, refl, sym, ap, subst, arith, ◌*◌, ◌&&◌, nat_lt}
 use Rattle.rep_core.specs.declared.stamped.Stamped.{Stamped}
 use Rattle.rep_core.specs.State.{State}
 use Rattle.rep_core.specs.Service.{reply_of}
@@ -30,16 +30,14 @@ use Rattle.suite_collect.specs.declared.told.Told as collect
 use Rattle.run_core.specs.declared.event.Event as happening
 use Rattle.run_core.specs.Worlds as worlds
 use Rattle.law_server_moves.specs.Laws as steps
-use Rattle.law_run_quorums.proofs.Served.{served_agrees, lacked_agrees}
+use Rattle.law_run_quorums.proofs.Served.{served_agrees}
 use Rattle.law_run_quorums.proofs.Agreed.{all_agree, take_agrees}
 
 same_told : (w later : World) (t : ℕ) (list : List collect.Told) → later.told ≡ w.told → Agrees (told_to w t) list → Agrees (told_to later t) list
 same_told w later t list same agrees = subst (λ told. Agrees (λ i. told i t) list) (sym same) agrees
 
 doing_same : (z : ℕ) (w later : World) (doing : Option Doing) → later.told ≡ w.told → DoingAgrees z w doing → DoingAgrees z later doing
-doing_same z w later (Some (Running txn_run)) same agrees = same_told w later txn_run.task.t (told_at txn_run.suites z) same agrees
-doing_same z w later (Some (RunningSweep sweep_run)) same agrees = tt
-doing_same z w later None same agrees = tt
+doing_same z w later doing h4 h5 = search (same_told, arith)
 
 -- nothing told yet
 agrees_nil : (f : ℕ → Option Told) → ((i : ℕ) → f i ≡ None) → Agrees f []
@@ -85,11 +83,7 @@ module _ (given : Opening) (z : ℕ) (w : World) (world : worlds.World) (inv : I
 
   lacked : (doing : Option Doing) (asked : ℕ × Request) (why : _) → DoingAgrees z w doing → (before : TransactionRun) → doing ≡ Some (Running before)
       → Agrees (told_to w before.task.t) (heard_by z (told_at before.suites z) asked.0 asked.1 (Lacked why))
-  lacked (Some (Running before)) asked why agrees other same =
-      subst (λ (other : TransactionRun). Agrees (told_to w other.task.t) (heard_by z (told_at other.suites z) asked.0 asked.1 (Lacked why))) (same_only before other same)
-      (lacked_agrees z asked.0 (told_to w before.task.t) asked.1 why (told_at before.suites z) agrees)
-  lacked (Some (RunningSweep sweep_run)) asked why agrees other same = absurd cc
-  lacked None asked why agrees other same = absurd cc
+  lacked doing asked why h3 before h5 = search arith
 
   -- ---- a request of an agent
 
@@ -182,12 +176,10 @@ module _ (given : Opening) (z : ℕ) (w : World) (world : worlds.World) (inv : I
   -- ---- the operator tells nobody of a copy
 
   crashed : (i : ℕ) (said : Reply) → (run first w (moves z (home_in given) (decision_by z w None) i w request.Crash said)).told ≡ w.told
-  crashed i reply.Done = refl
-  crashed i _ = refl
+  crashed i said = search arith
 
   returned : (i : ℕ) (said : Reply) → (run first w (moves z (home_in given) (decision_by z w None) i w request.Return said)).told ≡ w.told
-  returned i reply.Done = refl
-  returned i _ = refl
+  returned i said = search arith
 
   all_same : (later : World) → later.told ≡ w.told → AllAgree z later world
   all_same later same number actor there = doing_same z w later actor.agent.doing same (agree number actor there)
@@ -208,9 +200,7 @@ module _ (given : Opening) (z : ℕ) (w : World) (world : worlds.World) (inv : I
   -- a job that begins was told of nothing
   begun_left : (later : World) (n count : ℕ) (after : After TransactionRun) → ((i : ℕ) → w.told i (64 * count + n) ≡ None) → Leaves (λ number. []) after
       → IsDoing z later n (count + 1) (left Running after) → DoingAgrees z w (left Running after)
-  begun_left later n count (GoesOn txn_run) untold leaves doing =
-      let at : txn_run.task.t ≡ 64 * count + n = numbered_so txn_run.task.t n count doing.numbered in
-      subst (λ list. Agrees (told_to w txn_run.task.t) list) (sym (leaves.1 z)) (agrees_nil (told_to w txn_run.task.t) (λ i. ap (w.told i) at ∙ untold i))
+  begun_left later n count (GoesOn txn_run) untold leaves doing = search (numbered_so txn_run.task.t n count doing.numbered, agrees_nil, arith)
   begun_left later n count (Ends ending) untold leaves doing = tt
 
   began : (later : World) (number : ℕ) (agent : Agent) (job : Job) → ((i : ℕ) → w.told i (64 * agent.count + number) ≡ None) → DoingAgrees z w agent.doing
@@ -244,8 +234,7 @@ module _ (given : Opening) (z : ℕ) (w : World) (world : worlds.World) (inv : I
   begin_next number job None there = agree
 
   forget_next : (number site : ℕ) (o : Option Actor) → actor_at world number ≡ o → AllAgree z w (becomes world number (λ agent. forget agent site) o).world
-  forget_next number site (Some actor) there =
-      all_agree z w w world number actor (record actor { agent = forget actor.agent site }) there linked agree (agree number actor there) (λ u m place is small other. quiet_same w u)
+  forget_next number site (Some actor) there = search (all_agree, quiet_same, arith)
   forget_next number site None there = agree
 
   -- each event keeps it, where agents keep to their side

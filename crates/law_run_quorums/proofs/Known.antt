@@ -1,10 +1,10 @@
 -- What a transaction knows of a suite, it knows from a quorum.
-use Rattle.law_run_quorums.proofs.Vocabulary.{false≢true, eqb-true, nat_tests, Representative, Configuration, votes_in, Prefix, LockMode, Shared, Exclusive, serves, Said, Collector, all_told, needed_of, ReadPoint, GatheredSuite, Beginning}
-use Rattle.law_run_quorums.proofs.Vocabulary.{Known, WasPrefix, Told, World, IsQuorum, Inv, showed, known_by, told_to, ToldOf, SaidIs, AreTold, KnowsFromAQuorum}
-use Rattle.suite_collect.specs.declared.told.Said.TheVariants.{Held, Busy, Down}
-use Rattle.std.proofs.Common.{◌≡◌, ℕ, ◌≤◌, Bool, true, false, cond, ◌⊎◌, inl, inr, List, [], ◌∷◌, ◌++◌, Option, Some, refl, sym, ap, subst, ◌∙◌, arith, ◌==◌, ◌&&◌, ◌||◌, nat_lt, nat_le, max}
+use Rattle.law_run_quorums.proofs.Vocabulary.{false≢true, eqb-true, nat_tests, Representative, Configuration, votes_in, Prefix, LockMode, Said, Collector, all_told, needed_of, ReadPoint, GatheredSuite, Beginning, Known, WasPrefix, Told, World}
+use Rattle.law_run_quorums.proofs.Vocabulary.{IsQuorum, Inv, showed, known_by, told_to, AreTold, KnowsFromAQuorum}
+use Rattle.suite_collect.specs.declared.told.Said.TheVariants.{Held}
+use Rattle.std.proofs.Common.{◌≡◌, ℕ, ◌≤◌, Bool, true, false, ◌⊎◌, inl, inr, List, [], ◌∷◌, ◌++◌, Option, Some, refl, sym, ap, subst, ◌∙◌, arith, ◌==◌, ◌||◌, nat_le, max}
 use Rattle.vote_core.specs.Validity.{IsValid}
-use Rattle.suite_collect.specs.Telling.{is_held, newer, newest, holds, version_in, shown, greatest}
+use Rattle.suite_collect.specs.Telling.{newer, newest, holds, shown, greatest}
 use Rattle.suite_collect.specs.Laws.{among, IsCurrent}
 use Rattle.suite_collect.proofs.Collected.{gives_of, current_is_a_quorum}
 use Rattle.suite_collect.proofs.Sources.{some_needed}
@@ -15,13 +15,10 @@ use Rattle.suite_collect.specs.declared.told.Told as collect
 -- ---- what a server showed
 
 newer_above : (prefix : Prefix) (said : Said) → prefix.pver ≤ (newer prefix said).pver
-newer_above prefix (Held other dver) =
-    elim (nat_lt prefix.pver other.pver) as (λ b. nat_lt prefix.pver other.pver ≡ b → prefix.pver ≤ (cond b other prefix).pver) [ true ↦ λ e. grind (arith, nat_tests) | false ↦ λ _. omega arith ] refl
-newer_above prefix _ = omega arith
+newer_above prefix said = search arith
 
 newer_least : (prefix other : Prefix) (dver : ℕ) → other.pver ≤ (newer prefix (Held other dver)).pver
-newer_least prefix other dver =
-    elim (nat_lt prefix.pver other.pver) as (λ b. nat_lt prefix.pver other.pver ≡ b → other.pver ≤ (cond b other prefix).pver) [ true ↦ λ _. omega arith | false ↦ λ e. grind (arith, nat_tests) ] refl
+newer_least prefix other dver = search arith
 
 -- a server that holds a lock was told of, with the version that it showed and no newer prefix
 record Showed (f : ℕ → Option Told) (start : Prefix) (list : List collect.Told) (i : ℕ) : Type 0 where
@@ -32,46 +29,7 @@ record Showed (f : ℕ → Option Told) (start : Prefix) (list : List collect.To
 
 showed_on : (f : ℕ → Option Told) (start : Prefix) (mode : LockMode) (list : List collect.Told) (i : ℕ) → AreTold f list → holds mode list i ≡ true → Showed f start list i
 showed_on f start mode [] i are held = absurd (false≢true held)
-showed_on f start mode (last ∷ list) i are held =
-    elim (last.server == i) as (λ b. (last.server == i) ≡ b → ((b && (is_held last.said && serves last.mode mode)) || holds mode list i) ≡ true → Showed f start (last ∷ list) i) [
-      | true ↦ λ e held. here e last.said refl are.0 held (λ held. showed_on f start mode list i are.1 held)
-      | false ↦ λ e held. let rest = showed_on f start mode list i are.1 held in later e last.said refl rest
-    ] refl held
-  where
-    later : (last.server == i) ≡ false → (said : Said) → last.said ≡ said → Showed f start list i → Showed f start (last ∷ list) i
-    later e said _ rest = record {
-      one = rest.one;
-      is = rest.is;
-      prefix = let a = rest.prefix in let b = newer_above (newest start list) last.said in omega arith;
-      dver = rest.dver ∙ sym (ap (λ b. cond b (version_in last.said (shown list i)) (shown list i)) e);
-    }
-
-    quiet : (last.server == i) ≡ true → (said : Said) → last.said ≡ said → version_in last.said (shown list i) ≡ shown list i → Showed f start list i → Showed f start (last ∷ list) i
-    quiet e said _ same rest = record {
-      one = rest.one;
-      is = rest.is;
-      prefix = let a = rest.prefix in let b = newer_above (newest start list) last.said in omega arith;
-      dver = rest.dver ∙ sym (ap (λ b. cond b (version_in last.said (shown list i)) (shown list i)) e ∙ same);
-    }
-
-    here : (last.server == i) ≡ true → (said : Said) → last.said ≡ said → SaidIs (f last.server) last.said
-        → ((is_held last.said && serves last.mode mode) || holds mode list i) ≡ true → (holds mode list i ≡ true → Showed f start list i) → Showed f start (last ∷ list) i
-    here e (Held prefix dver) same told held rest =
-        let of : ToldOf (f last.server) prefix dver = subst (SaidIs (f last.server)) same told in
-        let at : last.server ≡ i = eqb-true last.server i e in
-        record {
-          one = of.one;
-          is = ap f (sym at) ∙ of.is;
-          prefix = subst (λ said. of.one.copy.prefix.pver ≤ (newer (newest start list) said).pver) (sym same)
-              (subst (λ (p : Prefix). p.pver ≤ (newer (newest start list) (Held prefix dver)).pver) (sym of.prefix_is) (newer_least (newest start list) prefix dver));
-          dver = of.dver_is ∙ sym (ap (λ b. cond b (version_in last.said (shown list i)) (shown list i)) e ∙ ap (λ said. version_in said (shown list i)) same);
-        }
-    here e (Busy holder) same told held rest =
-        quiet e (Busy holder) same (ap (λ said. version_in said (shown list i)) same)
-        (rest (sym (ap (λ said. (is_held said && serves last.mode mode) || holds mode list i) same) ∙ held))
-    here e Down same told held rest =
-        quiet e Down same (ap (λ said. version_in said (shown list i)) same)
-        (rest (sym (ap (λ said. (is_held said && serves last.mode mode) || holds mode list i) same) ∙ held))
+showed_on f start mode (last ∷ list) i are held = search (newer_above, eqb-true, newer_least, showed_on f start mode list i, arith)
 
 -- ---- the greatest version
 
@@ -96,19 +54,12 @@ self : (i : ℕ) → (i == i) ≡ true
 self i = grind (arith, nat_tests)
 
 or_true : (a b : Bool) → b ≡ true → (a || b) ≡ true
-or_true true b is = refl
-or_true false b is = is
+or_true a b h2 = search arith
 
 -- one of them showed it
 greatest_of : (list : List collect.Told) (first : ℕ) (members : List ℕ) → (i : ℕ) × (among (first ∷ members) i ≡ true) × (shown list i ≡ greatest list (first ∷ members))
-greatest_of list first [] =
-    (first, ap (λ b. b || false) (self first), elim (max_is (shown list first) 0) [ inl is ↦ sym is | inr is ↦ let low = max_left (shown list first) 0 in (let e : shown list first ≡ max (shown list first) 0 = omega (arith, is, low) in e) ])
-greatest_of list first (second ∷ members) =
-    let rest = greatest_of list second members in
-    elim (max_is (shown list first) (greatest list (second ∷ members))) [
-      | inl is ↦ (first, ap (λ b. b || among (second ∷ members) first) (self first), sym is)
-      | inr is ↦ (rest.0, or_true (first == rest.0) (among (second ∷ members) rest.0) rest.1, rest.2 ∙ sym is)
-    ]
+greatest_of list first [] = search (self first, max_is (shown list first) 0, max_left (shown list first) 0, arith)
+greatest_of list first (second ∷ members) = search (max_is (shown list first) (greatest list (second ∷ members)), self first, or_true, greatest_of list second members, arith)
 
 -- ---- quorums
 
@@ -116,16 +67,11 @@ no_votes : (reps : List Representative) → votes_in reps (among []) ≡ 0
 no_votes [] = refl
 no_votes (rep ∷ reps) = let rest = no_votes reps in omega arith
 
-least : (a b : ℕ) → a ≤ b → nat_le a b ≡ true
-least a b is = grind (arith, nat_tests)
-
 is_quorum : (mode : LockMode) (votes : Configuration) (set : ℕ → Bool) → needed_of mode votes ≤ votes_in votes.reps set → IsQuorum votes set
-is_quorum Shared votes set enough = inl (least votes.r (votes_in votes.reps set) enough)
-is_quorum Exclusive votes set enough = inr (least votes.w (votes_in votes.reps set) enough)
+is_quorum mode votes set h3 = search arith
 
 showed_is : (known : Known) (o : Option Told) (one : Told) → o ≡ Some one → one.copy.prefix.pver ≤ known.prefix.pver → one.copy.dver ≤ known.dver → showed known o ≡ true
-showed_is known o one is prefix dver =
-    ap (showed known) is ∙ ap (λ b. b && nat_le one.copy.dver known.dver) (least one.copy.prefix.pver known.prefix.pver prefix) ∙ least one.copy.dver known.dver dver
+showed_is known o one is prefix dver = search arith
 
 -- ---- the lists of a collector
 
@@ -150,11 +96,7 @@ module _ (f : ℕ → Option Told) (suite : GatheredSuite) (first : ReadPoint) (
   member i is = showed_on f suite.collector.start from.mode from.earlier i told_early (is_current.held i is)
 
   showed_member : (i : ℕ) → among from.members i ≡ true → showed (known_by first suite) (f i) ≡ true
-  showed_member i is =
-      let it = member i is in
-      showed_is (known_by first suite) (f i) it.one it.is
-      (subst (λ (p : Prefix). it.one.copy.prefix.pver ≤ p.pver) newest_is it.prefix)
-      (let above = greatest_above from.earlier from.members i is in let a = it.dver in let b = is_current.latest in omega arith)
+  showed_member i is = search (member i is, showed_is, newest_is, greatest_above, arith)
 
   pub quorum : IsQuorum first.prefix.votes (λ i. showed (known_by first suite) (f i))
   quorum =

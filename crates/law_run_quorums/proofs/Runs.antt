@@ -1,5 +1,5 @@
 -- In every run collectors hold what machines told.
-use Rattle.law_run_quorums.proofs.Vocabulary.{Opening, Agent, fixed_of, step, World, begun, Inv, Shows, beginning, AreOwed, servers_open, AllConsistent, opening_consistent, AllLinked, DoingAgrees, AllAgree, CollectorsAgree}
+use Rattle.law_run_quorums.proofs.Vocabulary.{Opening, fixed_of, step, World, begun, Inv, Shows, beginning, AreOwed, servers_open, AllConsistent, opening_consistent, AllLinked, AllAgree, CollectorsAgree, arith}
 use Rattle.std.proofs.Common.{ℕ, List, [], ◌∷◌, sym, subst}
 use Rattle.run_core.specs.Runs.{after}
 use Rattle.law_suite_machine.proofs.Steps.{all_steps}
@@ -29,9 +29,7 @@ agree_from given z w world (event ∷ events) inv shows all linked waiting readi
     (event_agrees given z w world inv shows all linked agree event one.0) owed.1
 
 pub opens_agree : (given : Opening) (z : ℕ) → AllAgree z (begun (beginning z given)) (worlds.opening given)
-opens_agree given z n actor there =
-    let is = actor_opens 0 given.agents n actor there in
-    subst (λ (agent : Agent). DoingAgrees z (begun (beginning z given)) agent.doing) (sym is.1) tt
+opens_agree given z n actor there = search (actor_opens, arith)
 
 pub collectors_agree : CollectorsAgree
 collectors_agree given z events valid few few_servers owed =

@@ -1,12 +1,10 @@
 -- What a request that is served makes of the machine's telling, and of the collector's list.
-use Rattle.law_run_quorums.proofs.Vocabulary.{false≢true, eqb-true, nat_tests, Prefix, Replica, LockMode, Shared, Exclusive, serves, Request, Reply, Said, mode_of, more_told, told_by, locks, is_poll, said_to, heard_by, Beginning, Told}
-use Rattle.law_run_quorums.proofs.Vocabulary.{Hold, Verdict, World, set2, is_exclusive, Obeys, TellsCopy, Tells, told_to, ToldOf, SaidIs, AreTold, Agrees, Replied, Lacked, Event, Overrule, happens, run, upgraded_told}
-use Rattle.suite_collect.specs.declared.told.Said.TheVariants.{Held, Busy, Down}
+use Rattle.law_run_quorums.proofs.Vocabulary.{false≢true, eqb-true, nat_tests, Prefix, Replica, LockMode, Exclusive, serves, Request, Reply, heard_by, Beginning, Told, Hold, Verdict, World, set2, is_exclusive, Obeys, TellsCopy, Tells, told_to}
+use Rattle.law_run_quorums.proofs.Vocabulary.{ToldOf, AreTold, Agrees, Replied, Event, Overrule, happens, run, upgraded_told}
+use Rattle.suite_collect.specs.declared.told.Said.TheVariants.{Held}
 use Rattle.law_server_moves.specs.Moves.{prepare_of, first_verdict, moves}
-use Rattle.std.proofs.Common.{◌≡◌, ℕ, Bool, true, false, cond, List, [], ◌∷◌, Option, Some, None, is_some, refl, sym, ap, subst, ◌∙◌, arith, ◌==◌, ◌&&◌, ◌||◌}
+use Rattle.std.proofs.Common.{◌≡◌, ℕ, Bool, true, false, cond, List, [], ◌∷◌, Option, Some, None, refl, sym, ap, subst, ◌∙◌, arith, ◌==◌, ◌||◌}
 use Rattle.rep_core.specs.declared.request.Part.{Part}
-use Rattle.rep_core.specs.declared.stamped.Lack.{Lack}
-use Rattle.suite_collect.specs.Telling.{is_held, holds}
 use Rattle.txn_core.proofs.Locks.{serves_shared}
 use Rattle.law_suite_machine.proofs.Places.{at2, one_is, itself}
 use Rattle.law_suite_machine.proofs.Sound.{Sound}
@@ -24,46 +22,14 @@ abbrev Grows : (ℕ → Option Told) → (ℕ → Option Told) → Type 0
 Grows f g = (i : ℕ) (one : Told) → f i ≡ Some one → (more : Told) × (g i ≡ Some more) × (more.copy ≡ one.copy)
 
 grows_of : (f g : ℕ → Option Told) (i : ℕ) (prefix : Prefix) (dver : ℕ) → Grows f g → ToldOf (f i) prefix dver → ToldOf (g i) prefix dver
-grows_of f g i prefix dver grows is =
-    let more = grows i is.one is.is in
-    record { one = more.0; is = more.1; prefix_is = ap (λ (copy : Replica). copy.prefix) more.2 ∙ is.prefix_is; dver_is = ap (λ (copy : Replica). copy.dver) more.2 ∙ is.dver_is }
+grows_of f g i prefix dver grows is = search arith
 
 are_grown : (f g : ℕ → Option Told) (list : List collect.Told) → Grows f g → AreTold f list → AreTold g list
 are_grown f g [] grows are = tt
-are_grown f g (one ∷ list) grows are = (of one.said are.0, are_grown f g list grows are.1)
-  where
-    of : (said : Said) → SaidIs (f one.server) said → SaidIs (g one.server) said
-    of (Held prefix dver) is = grows_of f g one.server prefix dver grows is
-    of (Busy holder) is = tt
-    of Down is = tt
-
--- a response that tells of no lock
-refused_agrees : (f : ℕ → Option Told) (list : List collect.Told) (i : ℕ) (mode : LockMode) (said : Said) → is_held said ≡ false → Agrees f list → Agrees f (record { server = i; mode = mode; said = said } ∷ list)
-refused_agrees f list i mode said none agrees = record {
-  copies = (of said none, agrees.copies);
-  held = λ who. agrees.held who ∙ sym (same who (serves mode Shared) (holds Shared list who));
-  exclusive = λ who. agrees.exclusive who ∙ sym (same who (serves mode Exclusive) (holds Exclusive list who));
-}
-  where
-    of : (said : Said) → is_held said ≡ false → SaidIs (f i) said
-    of (Held prefix dver) none = absurd (false≢true (sym none))
-    of (Busy holder) none = tt
-    of Down none = tt
-
-    off : (a b c : Bool) → ((a && (false && b)) || c) ≡ c
-    off true b c = refl
-    off false b c = refl
-
-    same : (who : ℕ) (b c : Bool) → (((i == who) && (is_held said && b)) || c) ≡ c
-    same who b c = ap (λ d. ((i == who) && (d && b)) || c) none ∙ off (i == who) b c
-
--- a request that is not served tells of none
-pub lacked_agrees : (z i : ℕ) (f : ℕ → Option Told) (asked : Request) (why : Lack) (list : List collect.Told) → Agrees f list → Agrees f (heard_by z list i asked (Lacked why))
-lacked_agrees z i f asked why list agrees = elim (locks z asked) as (λ b. Agrees f (cond b list list)) [ true ↦ agrees | false ↦ agrees ]
+are_grown f g (one ∷ list) grows are = search (grows_of, are_grown f g list grows, arith)
 
 serves_exclusive : (mode : LockMode) → serves mode Exclusive ≡ modes.is_exclusive mode
-serves_exclusive Shared = refl
-serves_exclusive Exclusive = refl
+serves_exclusive mode = search arith
 
 same_test : (a b : ℕ) → (a == b) ≡ true → (b == a) ≡ true
 same_test a b e = grind (arith, nat_tests)
@@ -74,25 +40,7 @@ other_test a b e = grind (arith, nat_tests)
 -- one more is told of: the rest stays, and here is this copy under a lock that is exclusive now, or was before
 pub held_agrees : (f g : ℕ → Option Told) (list : List collect.Told) (i : ℕ) (mode : LockMode) (prefix : Prefix) (dver : ℕ) → Agrees f list → Grows f g → ((who : ℕ) → (who ≡ i → ⊥) → g who ≡ f who) → ToldOf (g i) prefix dver
     → is_exclusive (g i) ≡ (modes.is_exclusive mode || is_exclusive (f i)) → Agrees g (record { server = i; mode = mode; said = Held prefix dver } ∷ list)
-held_agrees f g list i mode prefix dver agrees grows others here exclusive = record {
-  copies = (here, are_grown f g list grows agrees.copies);
-  held = λ who.
-      elim (i == who) as (λ b. (i == who) ≡ b → is_some (g who) ≡ ((b && (true && serves mode Shared)) || holds Shared list who)) [
-        | true ↦ λ e. ap (λ i. is_some (g i)) (sym (eqb-true i who e)) ∙ ap is_some here.is ∙ sym (ap (λ b. b || holds Shared list who) (serves_shared mode))
-        | false ↦ λ e. ap is_some (others who (apart who e)) ∙ agrees.held who
-      ] refl;
-  exclusive = λ who.
-      elim (i == who) as (λ b. (i == who) ≡ b → is_exclusive (g who) ≡ ((b && (true && serves mode Exclusive)) || holds Exclusive list who)) [
-        | true ↦ λ e.
-            let same : i ≡ who = eqb-true i who e in
-            ap (λ i. is_exclusive (g i)) (sym same) ∙ exclusive ∙ ap (λ b. modes.is_exclusive mode || b) (agrees.exclusive i) ∙ ap (λ i. modes.is_exclusive mode || holds Exclusive list i) same
-            ∙ sym (ap (λ b. b || holds Exclusive list who) (serves_exclusive mode))
-        | false ↦ λ e. ap is_exclusive (others who (apart who e)) ∙ agrees.exclusive who
-      ] refl;
-}
-  where
-    apart : (who : ℕ) → (i == who) ≡ false → who ≡ i → ⊥
-    apart who e same = false≢true (sym e ∙ itself who i (sym same))
+held_agrees f g list i mode prefix dver agrees grows others here exclusive = search (are_grown, eqb-true, serves_shared, serves_exclusive, false≢true, itself, arith)
 
 some_same : (a b : Told) → Some a ≡ Some b → a ≡ b
 some_same a b e = cc
@@ -105,17 +53,13 @@ module _ (start : Beginning) (z : ℕ) (home : ℕ → ℕ) (decision : Event) (
 
   -- what is no lock tells of none
   told_if : (b : Bool) (event : Event) → (happens start w event).told ≡ w.told → (run start w (cond b (event ∷ []) [])).told ≡ w.told
-  told_if true event is = is
-  told_if false event is = refl
+  told_if b event h2 = search arith
 
   told_prepare : (t : ℕ) (o : Option Part) → (run start w (prepare_of i t w o)).told ≡ w.told
-  told_prepare t (Some part) = refl
-  told_prepare t None = refl
+  told_prepare t o = search arith
 
   told_ruling : (b : Bool) (o : Option Verdict) (event : Event) → (happens start w event).told ≡ w.told → (run start w (cond b (first_verdict o event) [])).told ≡ w.told
-  told_ruling true None event is = is
-  told_ruling true (Some old) event is = refl
-  told_ruling false o event is = refl
+  told_ruling b o event h3 = search arith
 
   same_list : (t : ℕ) (later : World) (list : List collect.Told) → later.told ≡ w.told → Agrees (told_to w t) list → Agrees (told_to later t) list
   same_list t later list same agrees = subst (λ told. Agrees (λ i. told i t) list) (sym same) agrees
@@ -135,8 +79,7 @@ module _ (start : Beginning) (z : ℕ) (home : ℕ → ℕ) (decision : Event) (
         (ap is_exclusive here ∙ or_none (modes.is_exclusive mode) (is_exclusive (w.told i t)) (ap is_exclusive untold))
       where
         or_none : (a b : Bool) → b ≡ false → a ≡ (a || b)
-        or_none true b is = refl
-        or_none false b is = sym is
+        or_none a b h2 = search arith
 
     -- one that becomes exclusive: it stood unbroken, so the copy is the one that was told of
     upgraded_lock : (u : ℕ) (hold : Hold) → u ≡ t → w.lock i u ≡ Some hold → Agrees (told_to (machine.upgraded w i u) t) (record { server = i; mode = Exclusive; said = Held prefix dver } ∷ list)
@@ -158,46 +101,14 @@ module _ (start : Beginning) (z : ℕ) (home : ℕ → ℕ) (decision : Event) (
 
   -- a reply that refuses a lock
   refused : (t : ℕ) (asked : Request) (said : Reply) (list : List collect.Told) → ((prefix : Prefix) (dver : ℕ) → said ≡ reply.Held prefix dver → ⊥) → Agrees (told_to w t) list → Agrees (told_to w t) (heard_by z list i asked (Replied said))
-  refused t asked said list none agrees = of (locks z asked)
-    where
-      by : (heard : Option Said) → ((s : Said) → heard ≡ Some s → is_held s ≡ false) → Agrees (told_to w t) (more_told list i asked heard)
-      by None refuses = agrees
-      by (Some heard) refuses = refused_agrees (told_to w t) list i (mode_of asked) heard (refuses heard refl) agrees
-
-      down : (b : Bool) (s : Said) → cond b (Some Down) None ≡ Some s → is_held s ≡ false
-      down true s e = let e' : Down ≡ s = cc in ap is_held (sym e')
-      down false s e = absurd cc
-
-      says : (said : Reply) → ((prefix : Prefix) (dver : ℕ) → said ≡ reply.Held prefix dver → ⊥) → (s : Said) → said_to asked said ≡ Some s → is_held s ≡ false
-      says (reply.Held prefix dver) none s e = absurd (none prefix dver refl)
-      says (reply.Busy holder prepared) none s e = let e' : Busy holder ≡ s = cc in ap is_held (sym e')
-      says reply.Down none s e = down (is_poll asked) s e
-      says other none s e = absurd cc
-
-      of : (b : Bool) → Agrees (told_to w t) (cond b (told_by list (record { server = i; request = asked; response = Replied said }) (Replied said)) list)
-      of true = by (said_to asked said) (says said none)
-      of false = agrees
+  refused t asked said list none agrees = search arith
 
   -- whatever is asked in the transaction's name and replied
   pub served_agrees : (t : ℕ) (asked : Request) (said : Reply) (list : List collect.Told) → names t asked ≡ true → Obeys start w (moves z home decision i w asked said)
       → Tells z home i w (Later asked said) asked said → Agrees (told_to w t) list
       → Agrees (told_to (Later asked said) t) (heard_by z list i asked (Replied said))
-  served_agrees t (request.Poll u s m) (reply.Held prefix dver) list is obeys tells agrees =
-      elim (z == s) as (λ b. (z == s) ≡ b → Obeys start w (cond b (machine.Held i u (modes.is_exclusive m) ∷ []) [])
-      → Agrees (told_to (run start w (cond b (machine.Held i u (modes.is_exclusive m) ∷ []) [])) t)
-      (heard_by z list i (request.Poll u s m) (Replied (reply.Held prefix dver)))) [
-        | true ↦ λ e obeys. subst (λ b. Agrees (told_to (machine.held w i u (modes.is_exclusive m)) t)
-            (cond b (record { server = i; mode = m; said = Held prefix dver } ∷ list) list)) (sym (same_test z s e))
-            (new_lock t list agrees prefix dver (tells (one_is s z e)) u m (one_is t u is) obeys.0.untold)
-        | false ↦ λ e _. subst (λ b. Agrees (told_to w t) (cond b (record { server = i; mode = m; said = Held prefix dver } ∷ list) list)) (sym (other_test z s e)) agrees
-      ] refl obeys
-  served_agrees t (request.Upgrade u s) (reply.Held prefix dver) list is obeys tells agrees =
-      elim (z == s) as (λ b. (z == s) ≡ b → Obeys start w (cond b (machine.Upgrade i u ∷ []) [])
-      → Agrees (told_to (run start w (cond b (machine.Upgrade i u ∷ []) [])) t) (heard_by z list i (request.Upgrade u s) (Replied (reply.Held prefix dver)))) [
-        | true ↦ λ e obeys. subst (λ b. Agrees (told_to (machine.upgraded w i u) t) (cond b (record { server = i; mode = Exclusive; said = Held prefix dver } ∷ list) list))
-            (sym (same_test z s e)) (upgraded_lock t list agrees prefix dver (tells (one_is s z e)) u obeys.0.lock (one_is t u is) obeys.0.stands)
-        | false ↦ λ e _. subst (λ b. Agrees (told_to w t) (cond b (record { server = i; mode = Exclusive; said = Held prefix dver } ∷ list) list)) (sym (other_test z s e)) agrees
-      ] refl obeys
+  served_agrees t (request.Poll u s m) (reply.Held prefix dver) list is obeys tells agrees = grind (heard_by, same_test, new_lock, one_is, other_test, arith)
+  served_agrees t (request.Upgrade u s) (reply.Held prefix dver) list is obeys tells agrees = grind (heard_by, same_test, upgraded_lock, one_is, other_test, arith)
   served_agrees t (request.Prepare u parts) reply.Prepared list is obeys tells agrees = same_list t (Later (request.Prepare u parts) reply.Prepared) list (told_prepare u _) agrees
   served_agrees t (request.Decide u decided) (reply.Verdict v) list is obeys tells agrees = same_list t (Later (request.Decide u decided) (reply.Verdict v)) list (told_ruling (home u == i) (w.verdict u) decision keeps) agrees
   served_agrees t (request.Resolve u) (reply.Verdict v) list is obeys tells agrees = same_list t (Later (request.Resolve u) (reply.Verdict v)) list (told_ruling (home u == i) (w.verdict u) (Overrule u) refl) agrees

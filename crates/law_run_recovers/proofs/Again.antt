@@ -1,8 +1,8 @@
 -- A transaction that is begun again and again where its votes are up: one of as many tries as there are servers is decided.
-use Rattle.law_run_recovers.proofs.Vocabulary.{◌≡◌, inl, inr, ⊎_elim, ℕ, zero, suc, ◌+◌, ◌<◌, Bool, true, false, cond, List, [], ◌∷◌, ◌++◌, append_assoc, length, Option, Some, None, is_some, refl, sym, ap, subst, ◌∙◌, arith, ◌*◌, ◌&&◌}
-use Rattle.law_run_recovers.proofs.Vocabulary.{nat_lt, slice_get, option_map, false≢true, and_parts, slice_get_within, Identity, Opening, State, Has, has_from, any_has, contains_from, Op, Job, Transaction, Fixed, home_of, fixed_of, is_idle}
-use Rattle.law_run_recovers.proofs.Vocabulary.{has_sense, max_jobs, Event, Begin, Actor, World, actor_at, has_no_job, opening, step, after, dones, outcomes, run, table_of, dones-append, outcomes-append, begins_now, so_many, CanBe}
-use Rattle.law_run_recovers.proofs.Vocabulary.{begins_job, can_front, with_job, up_in, is_up, up_free, unhindered_from, VotesAreUp, GoesAlone, again, goes_again, OneIsDecided, Always, OneOfThemIsDecidedAt}
+use Rattle.law_run_recovers.proofs.Vocabulary.{◌≡◌, inl, inr, ⊎_elim, ℕ, zero, suc, ◌+◌, ◌<◌, Bool, true, false, List, [], ◌∷◌, ◌++◌, append_assoc, length, Some, is_some, refl, sym, ap, subst, ◌∙◌, arith, ◌*◌, ◌&&◌, slice_get, false≢true, and_parts}
+use Rattle.law_run_recovers.proofs.Vocabulary.{slice_get_within, Identity, Opening, State, Has, has_from, any_has, contains_from, Op, Job, Transaction, Fixed, home_of, fixed_of, is_idle, Event, Begin, Actor, World, actor_at, has_no_job, opening}
+use Rattle.law_run_recovers.proofs.Vocabulary.{step, after, dones, outcomes, run, table_of, dones-append, outcomes-append, so_many, CanBe, begins_job, can_front, up_in, is_up, up_free, unhindered_from, VotesAreUp, GoesAlone, again, goes_again}
+use Rattle.law_run_recovers.proofs.Vocabulary.{OneIsDecided, Always, OneOfThemIsDecidedAt}
 use Rattle.run_core.proofs.Appending as appending
 use Rattle.law_run_recovers.proofs.Homes.{homes_go_round}
 use Rattle.law_run_recovers.proofs.AmongOver.{has_after}
@@ -45,29 +45,11 @@ suc_less k n less = omega (arith, less)
 
 begins_is : (given : Opening) (world : World) (agent : ℕ) (job : Job) (actor : Actor) → actor_at world agent ≡ Some actor → is_some (begins_job given world (Begin agent job)) ≡ true
     → (begins_job given world (Begin agent job) ≡ Some (64 * actor.agent.count + agent, job)) × (is_idle actor.agent.doing ≡ true)
-begins_is given world agent job actor there some =
-    let at = ap (λ found. option_map (λ t. (t, job)) (begins_now (fixed_of given) agent job found)) there in
-    let it = of (is_idle actor.agent.doing) (has_sense (fixed_of given) job) (nat_lt actor.agent.count max_jobs) (sym (ap is_some at) ∙ some) in
-    (at ∙ it.0, it.1)
-  where
-    of : (idle sense more : Bool) → is_some (with_job job (cond (idle && sense && more) (Some (64 * actor.agent.count + agent)) None)) ≡ true
-        → (with_job job (cond (idle && sense && more) (Some (64 * actor.agent.count + agent)) None) ≡ Some (64 * actor.agent.count + agent, job)) × (idle ≡ true)
-    of true true true some = (refl, refl)
-    of true true false some = absurd (false≢true some)
-    of true false more some = absurd (false≢true some)
-    of false sense more some = absurd (false≢true some)
+begins_is given world agent job actor there some = search arith
 
 idle_before : (given : Opening) (agent : ℕ) (job : Job) (world : World) (tries : List (List Event)) → goes_again given agent job world tries ≡ true → has_no_job (actor_at world agent) ≡ true
 idle_before given agent its_job world [] goes = goes
-idle_before given agent its_job world (later ∷ tries) goes =
-    let begun = (step (fixed_of given) world (Begin agent its_job)).world in
-    let some = is_some (begins_job given world (Begin agent its_job)) in
-    let calm = unhindered_from given agent begun later in
-    of (actor_at world agent) refl (and_parts some calm (and_parts (some && calm) (goes_again given agent its_job (after (fixed_of given) begun later) tries) goes).0).0
-  where
-    of : (found : Option Actor) → actor_at world agent ≡ found → is_some (begins_job given world (Begin agent its_job)) ≡ true → has_no_job found ≡ true
-    of None there some = refl
-    of (Some actor) there some = (begins_is given world agent its_job actor there some).1
+idle_before given agent its_job world (later ∷ tries) goes = search (some, and_parts, begins_is, arith)
 
 module _ (given : Opening) (agent : ℕ) (caller : Identity) (site : ℕ) (ops : List Op) where
   abbrev the_job : Job
@@ -78,33 +60,11 @@ module _ (given : Opening) (agent : ℕ) (caller : Identity) (site : ℕ) (ops :
 
   in_try : (world : World) (later rest : List Event) → OneIsDecided (outcomes (dones its_fixed (step its_fixed world (Begin agent the_job)).world later)) agent
       → OneIsDecided (outcomes (dones its_fixed world (Begin agent the_job ∷ later ++ rest))) agent
-  in_try world later rest one =
-      let begun = (step its_fixed world (Begin agent the_job)).world in
-      let here = has_left (outcomes (dones its_fixed begun later)) (outcomes (dones its_fixed (after its_fixed begun later) rest)) one.job (has_from (outcomes (dones its_fixed begun later)) one.job one.there) in
-      let both = subst (λ jobs. Has jobs one.job) (sym (ap outcomes (dones-append its_fixed begun later rest) ∙ outcomes-append (dones its_fixed begun later) (dones its_fixed (after its_fixed begun later) rest))) here in
-      record {
-        job = one.job;
-        there =
-            contains_from (outcomes (dones its_fixed world (Begin agent the_job ∷ later ++ rest))) one.job
-            (has_after (step its_fixed world (Begin agent the_job)).done.outcome (outcomes (dones its_fixed begun (later ++ rest))) one.job both);
-        of_it = one.of_it;
-        decided = one.decided;
-      }
+  in_try world later rest one = search (has_left, has_from, dones-append, outcomes-append, contains_from, has_after, arith)
 
   in_rest : (world : World) (later rest : List Event) → OneIsDecided (outcomes (dones its_fixed (after its_fixed (step its_fixed world (Begin agent the_job)).world later) rest)) agent
       → OneIsDecided (outcomes (dones its_fixed world (Begin agent the_job ∷ later ++ rest))) agent
-  in_rest world later rest one =
-      let begun = (step its_fixed world (Begin agent the_job)).world in
-      let there = has_right (outcomes (dones its_fixed begun later)) (outcomes (dones its_fixed (after its_fixed begun later) rest)) one.job (has_from (outcomes (dones its_fixed (after its_fixed begun later) rest)) one.job one.there) in
-      let both = subst (λ jobs. Has jobs one.job) (sym (ap outcomes (dones-append its_fixed begun later rest) ∙ outcomes-append (dones its_fixed begun later) (dones its_fixed (after its_fixed begun later) rest))) there in
-      record {
-        job = one.job;
-        there =
-            contains_from (outcomes (dones its_fixed world (Begin agent the_job ∷ later ++ rest))) one.job
-            (has_after (step its_fixed world (Begin agent the_job)).done.outcome (outcomes (dones its_fixed begun (later ++ rest))) one.job both);
-        of_it = one.of_it;
-        decided = one.decided;
-      }
+  in_rest world later rest one = search (has_right, has_from, dones-append, outcomes-append, contains_from, has_after, arith)
 
   tries_on : (tries : List (List Event)) (events : List Event) (actor : Actor) → CanBe given (events ++ again agent the_job tries) → actor_at (run given events) agent ≡ Some actor → up_free (run given events) ≡ true
       → ((more : ℕ) → more < length tries → VotesAreUp its_fixed (run given events) (table_of given events) actor.agent.cache (64 * (actor.agent.count + more) + agent) site caller ops)

@@ -1,8 +1,8 @@
 -- What a transaction that goes alone leaves where its home was down: nothing is decided, and stored copies are as they were; servers are up that were.
-use Rattle.law_run_recovers.proofs.Vocabulary.{◌≡◌, inl, ℕ, ◌+◌, Bool, true, false, List, [], ◌∷◌, ◌++◌, append-nil, length, Option, Some, None, refl, sym, ap, subst, ◌∙◌, ◌*◌, ◌==◌, ◌||◌, not, Contains, false≢true, eqb-true, same_Some}
-use Rattle.law_run_recovers.proofs.Vocabulary.{Identity, Opening, Replica, Lock, Request, Verdict, is_answered, copy_of, State, Has, has_from, Op, Transaction, home_of, fixed_of, next_of, or_right, Event, Begin, Step, Crash, Return, Actor}
-use Rattle.law_run_recovers.proofs.Vocabulary.{World, server_at, actor_at, run, decisions, decisions_from, table_of, table_after_all, decisions_from-append, EndedSo, names, by_step, finish_is_after, so_many, IsOwnAt, names_mine, AllAt}
-use Rattle.law_run_recovers.proofs.Vocabulary.{MayAsk, asks_servers, up_in, is_up, up_free, locks_in, shown_in, shown_at, GoesAlone, begun_world, world_after}
+use Rattle.law_run_recovers.proofs.Vocabulary.{◌≡◌, inl, ℕ, ◌+◌, Bool, true, false, List, [], ◌∷◌, ◌++◌, append-nil, length, Option, Some, None, refl, sym, ap, subst, ◌∙◌, ◌*◌, ◌==◌, ◌||◌, not, Contains, false≢true, eqb-true, same_Some, arith}
+use Rattle.law_run_recovers.proofs.Vocabulary.{Identity, Opening, Replica, Lock, Request, Verdict, is_answered, copy_of, State, Has, has_from, Op, Transaction, home_of, fixed_of, next_of, or_right, Event, Begin, Step, Crash, Return, Actor, World}
+use Rattle.law_run_recovers.proofs.Vocabulary.{server_at, actor_at, run, decisions, decisions_from, table_of, table_after_all, decisions_from-append, EndedSo, names, by_step, finish_is_after, so_many, IsOwnAt, names_mine, AllAt, MayAsk, asks_servers}
+use Rattle.law_run_recovers.proofs.Vocabulary.{up_in, is_up, up_free, locks_in, shown_in, shown_at, GoesAlone, begun_world, world_after}
 use Rattle.rep_core.specs.declared.request.Request.TheVariants as request
 use Rattle.rep_core.specs.declared.reply.Verdict.TheVariants as verdict
 use Rattle.file_ops.specs.Rows as rows
@@ -94,9 +94,7 @@ module _ (given : Opening) (events later : List Event) (agent t : ℕ) (caller :
 
     -- nothing is decided
     pub decisions_same : (so_far rest : List Event) → later ≡ so_far ++ rest → decisions given (events ++ Begin agent (Transaction caller site ops) ∷ so_far) ≡ decisions given events
-    decisions_same so_far rest split =
-        none_since given events so_far agent t caller site ops actor (can_so_far given events later agent t caller site ops actor (steadily given events later agent t caller site ops actor goes) so_far rest split) goes.there begun_number
-        (none_so_far so_far rest split)
+    decisions_same so_far rest split = search (none_since, can_so_far, steadily, begun_number, none_so_far, arith)
 
     pub table_same : table_of given (events ++ Begin agent (Transaction caller site ops) ∷ later) ≡ table_of given events
     table_same = ap (table_after_all (rows.opening given)) (decisions_same later [] (sym (append-nil later)))

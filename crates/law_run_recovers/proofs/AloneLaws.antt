@@ -1,6 +1,6 @@
 -- What is promised to a transaction that goes alone: it is met by nobody, and each job of its agent that ends from then on is it.
-use Rattle.law_run_recovers.proofs.Vocabulary.{◌≡◌, ℕ, ◌+◌, ◌-◌, ◌*◌, arith, false, List, [], ◌∷◌, ◌++◌, sym, ap, subst, ◌∙◌, not, not-true, and_parts, has_from, hinders, unhindered_from, world_after, step, Contains, Identity, Opening, Op}
-use Rattle.law_run_recovers.proofs.Vocabulary.{fixed_of, Event, EndedJob, Actor, dones, outcomes, GoesAlone, EndsThen, begun_world, Always, DecidedWhereVotesAreAt, EndsAreByVotesAt, EndsInTimeAt}
+use Rattle.law_run_recovers.proofs.Vocabulary.{◌≡◌, ℕ, ◌+◌, ◌-◌, ◌*◌, arith, false, List, [], ◌∷◌, ◌++◌, sym, ap, subst, ◌∙◌, not, not-true, and_parts, has_from, hinders, unhindered_from, world_after, step, Contains, Identity, Opening, Op, fixed_of}
+use Rattle.law_run_recovers.proofs.Vocabulary.{Event, EndedJob, Actor, dones, outcomes, GoesAlone, EndsThen, begun_world, Always, DecidedWhereVotesAreAt, EndsAreByVotesAt, EndsInTimeAt}
 use Rattle.law_run_recovers.proofs.AmongOver.{ended_own}
 use Rattle.law_run_recovers.proofs.AmongTime.{unmet_end_in_time}
 use Rattle.law_run_recovers.proofs.AmongBegin.{first_course}
@@ -48,8 +48,7 @@ module _ (given : Opening) (events later : List Event) (agent t : ℕ) (caller :
   own_then job ends = ended_own given events later agent t caller site ops actor steadily job ends
 
 pub ends_are_by_votes : Always EndsAreByVotesAt
-ends_are_by_votes given events later agent t caller site ops actor goes job there own =
-    unmet_by_votes given events later agent t caller site ops actor (alone_is_unmet given events later agent t caller site ops actor goes) job (alone_then given events later agent t caller site ops actor goes job there own)
+ends_are_by_votes given events later agent t caller site ops actor goes job there own = search (unmet_by_votes, alone_is_unmet, alone_then, arith)
 
 pub they_end_in_time : Always EndsInTimeAt
 they_end_in_time given events later agent t caller site ops actor goes more =
@@ -57,6 +56,4 @@ they_end_in_time given events later agent t caller site ops actor goes more =
     record { job = it.job; there = it.ends.there; of_it = own_then given events later agent t caller site ops actor goes it.job it.ends }
 
 pub decided_where_votes_are : Always DecidedWhereVotesAreAt
-decided_where_votes_are given events later agent t caller site ops actor goes unmoved job there own =
-    unmet_where_votes given events later agent t caller site ops actor (alone_is_unmet given events later agent t caller site ops actor goes) (λ before after one parts has. unmoved before after one.0 parts) job
-    (alone_then given events later agent t caller site ops actor goes job there own)
+decided_where_votes_are given events later agent t caller site ops actor goes unmoved job there own = search (unmet_where_votes, alone_is_unmet, alone_then, arith)

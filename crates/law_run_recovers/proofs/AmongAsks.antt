@@ -1,7 +1,7 @@
 -- What a transaction that goes steadily asks for next is of what it asks for on the table as it began.
-use Rattle.law_run_recovers.proofs.Vocabulary.{◌≡◌, inl, ℕ, List, [], ◌∷◌, Some, refl, sym, ap, subst, ◌∙◌, Contains, none-some, Identity, Configuration, Opening, LockMode, Exclusive, Op, Request, Has, contains_from, Collector, Asked, Poll}
-use Rattle.law_run_recovers.proofs.Vocabulary.{Upgrade, wanted, request_for, mode_asked, Cache, Suites, suite_of, parts_at, Task, Granted, Phase, Gathering, Fetching, Preparing, Deciding, Finishing, home_of, asked_for, changes_of}
-use Rattle.law_run_recovers.proofs.Vocabulary.{decision_of, request_in, fixed_of, asks_same, Event, Actor, table_of, locks_asked, votes_set, asks_for}
+use Rattle.law_run_recovers.proofs.Vocabulary.{◌≡◌, inl, ℕ, List, [], ◌∷◌, Some, refl, sym, ap, subst, ◌∙◌, Contains, none-some, Identity, Configuration, Opening, LockMode, Exclusive, Op, Request, Has, contains_from, Asked, Poll, arith, Upgrade}
+use Rattle.law_run_recovers.proofs.Vocabulary.{request_for, mode_asked, Cache, Suites, suite_of, parts_at, Task, Granted, Phase, Gathering, Fetching, Preparing, Deciding, Finishing, home_of, asked_for, changes_of, decision_of, request_in, fixed_of}
+use Rattle.law_run_recovers.proofs.Vocabulary.{asks_same, Event, Actor, table_of, locks_asked, votes_set, asks_for}
 use Rattle.suite_collect.specs.Collecting.{mode_or}
 use Rattle.rep_core.specs.declared.request.Request.TheVariants as request
 use Rattle.txn_core.specs.Doing as doing
@@ -29,11 +29,7 @@ module _ (given : Opening) (events later : List Event) (agent t : ℕ) (caller :
   module _ (server : ℕ) (asked : Request) where
     pub gather_asks : (now : Cache) (suites : Suites) (z : ℕ) (at : PhaseIn given events later agent t caller site ops actor goes suites now (Gathering z)) (asks : AsksFor its_task.t z at.0.suite.collector server asked)
         → Contains (asks_for given events t caller ops) (z, mode_asked asks.question)
-    gather_asks now suites z at asks =
-        let g = at.0 in
-        let mode : mode_asked asks.question ≡ g.mode = next_mode g.suite.collector server asks.question asks.is ∙ ap wanted g.found.reached.is ∙ ap (λ (c : Collector). c.mode) (sym g.found.reached.is) ∙ g.mode_is in
-        subst (λ mode. Contains (asks_for given events t caller ops) (z, mode)) (sym mode)
-        (asked_there (z, g.mode) (subst (λ locks. Has locks (z, g.mode)) (sym (g.asks.order ∙ ap (onto g.asked) g.next_is)) (onto_left g.asked _ (z, g.mode) (inl refl))))
+    gather_asks now suites z at asks = search (next_mode, asked_there, onto, onto_left, arith)
 
     pub widen_asks : (now : Cache) (suites : Suites) (z : ℕ) (left : List ℕ) (granted : Granted) (at : PhaseIn given events later agent t caller site ops actor goes suites now (doing.Widening (z ∷ left) granted))
         (asks : AsksFor its_task.t z at.suite.collector server asked)

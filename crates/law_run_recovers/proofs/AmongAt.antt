@@ -1,9 +1,9 @@
 -- What a transaction that goes steadily is replied, at a moment before its end is fixed.
-use Rattle.law_run_recovers.proofs.Vocabulary.{◌≡◌, ℕ, true, false, cond, List, [], ◌∷◌, ◌++◌, append_assoc, append-nil, Option, Some, None, is_some, refl, sym, ap, subst, ◌∙◌, ◌==◌, ◌&&◌, ◌||◌, Contains, list_any, false≢true, and_parts}
-use Rattle.law_run_recovers.proofs.Vocabulary.{and_from, eq-eqb, Identity, Opening, LockMode, Op, Part, Request, is_prepared, has_lock, copy_of, State, reply_of, reply_up, reply_down, stands_prepared, can_prepare, recorded, verdict_of, Has}
-use Rattle.law_run_recovers.proofs.Vocabulary.{has_any, has_from, Asked, Upgrade, request_for, mode_asked, Poll, Transaction, TransactionRun, Running, given_in, stands_on_locks, fixed_of, next_of, Event, Begin, Step, Actor, World}
-use Rattle.law_run_recovers.proofs.Vocabulary.{server_at, actor_at, run, CanBe, replies_down, can_front, Finds, up_in, is_up, shown_in, shown_at, locks_in, locks_at, asks_for, is_open_way, is_open_at, way_in, way_at, world_after, robs}
-use Rattle.law_run_recovers.proofs.Vocabulary.{hinders_itself, SameWay, bereaves, shows_same, told_as_first, or_right, given as gives}
+use Rattle.law_run_recovers.proofs.Vocabulary.{◌≡◌, ℕ, true, false, cond, List, [], ◌∷◌, ◌++◌, append_assoc, append-nil, Option, Some, None, is_some, refl, sym, ap, subst, ◌∙◌, ◌==◌, ◌&&◌, ◌||◌, Contains, list_any, false≢true, and_parts, arith}
+use Rattle.law_run_recovers.proofs.Vocabulary.{and_from, eq-eqb, Identity, Opening, LockMode, Op, Part, Request, is_prepared, has_lock, copy_of, State, reply_of, reply_up, reply_down, stands_prepared, can_prepare, recorded, verdict_of, Has, has_any}
+use Rattle.law_run_recovers.proofs.Vocabulary.{has_from, Asked, Upgrade, request_for, mode_asked, Transaction, TransactionRun, Running, given_in, stands_on_locks, fixed_of, next_of, Event, Begin, Step, Actor, World, server_at, actor_at, run, CanBe}
+use Rattle.law_run_recovers.proofs.Vocabulary.{replies_down, can_front, Finds, up_in, is_up, shown_in, shown_at, locks_in, locks_at, asks_for, is_open_way, is_open_at, way_in, way_at, world_after, robs, hinders_itself, SameWay, bereaves, shows_same}
+use Rattle.law_run_recovers.proofs.Vocabulary.{told_as_first, or_right, given as gives}
 use Rattle.rep_core.specs.declared.request.Decision.{Decision}
 use Rattle.rep_core.specs.declared.reply.Reply.TheVariants as reply
 use Rattle.rep_core.specs.declared.request.Request.TheVariants as request
@@ -13,8 +13,6 @@ use Rattle.law_run_recovers.proofs.NearGround.{answers, opens, first_asked, is_h
 use Rattle.law_run_recovers.proofs.Polled.{dver_in, dver_at, Answers, answers_so}
 use Rattle.law_run_recovers.proofs.Serves.{On}
 use Rattle.law_run_recovers.proofs.Unrobbed.{unrecorded_at, finds_then, stands_then}
-
--- ---- one server
 
 -- ---- at a moment
 
@@ -54,13 +52,11 @@ module _ (given : Opening) (events later : List Event) (agent t : ℕ) (caller :
 
     -- a lock that it asks for is of what it asks for
     of_lock : (z : ℕ) (question : Asked) → Contains (asks_for given events t caller ops) (z, mode_asked question) → OfAsks t (asks_for given events t caller ops) (request_for t z question)
-    of_lock z (Poll mode) has = (refl, has)
-    of_lock z Upgrade has = (refl, has)
+    of_lock z question h2 = search arith
 
     way_of : (z : ℕ) (question : Asked) → told_as_first (run given events) (world_after given events agent caller site ops so_far) server (request_for t z question)
         → SameWay (run given events) (world_after given events agent caller site ops so_far) server t z (mode_asked question)
-    way_of z (Poll mode) told = told
-    way_of z Upgrade told = told
+    way_of z question h2 = search arith
 
     module _ (here : Actor) (txn_run : TransactionRun) (there : actor_at (world_after given events agent caller site ops so_far) agent ≡ Some here) (running : here.agent.doing ≡ Some (Running txn_run)) (number : txn_run.task.t ≡ t) where
       module _ (question : Request) (next : next_of (fixed_of given) here.agent ≡ Some (server, question)) where
@@ -117,8 +113,7 @@ module _ (given : Opening) (events later : List Event) (agent t : ℕ) (caller :
               the_same : (old : State) → shows_same (server_at (world_after given events agent caller site ops so_far) server) (server_at (run given events) server) z
                   → server_at (world_after given events agent caller site ops so_far) server ≡ Some st → server_at (run given events) server ≡ Some old
                   → ((copy_of st.store z).prefix ≡ (copy_of old.store z).prefix) × ((copy_of st.store z).dver ≡ (copy_of old.store z).dver)
-              the_same old same now was =
-                  subst (λ found. shows_same found (Some old) z) now (subst (λ found. shows_same (server_at (world_after given events agent caller site ops so_far) server) found z) was same)
+              the_same old same now was = search arith
 
               of : (found : Option State) → server_at (run given events) server ≡ found → up_in found ≡ true → ((copy_of st.store z).prefix ≡ shown_in (fixed_of given) found z) × ((copy_of st.store z).dver ≡ dver_in found z)
               of None was up = absurd (false≢true up)

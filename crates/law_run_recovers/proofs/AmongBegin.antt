@@ -1,14 +1,13 @@
 -- A transaction that goes steadily ends as the votes say that are open: its begin.
-use Rattle.law_run_recovers.proofs.Vocabulary.{◌≡◌, ℕ, Bool, true, false, cond, List, [], Option, Some, None, refl, sym, ap, subst, ◌∙◌, ◌*◌, ◌+◌, ◌&&◌, nat_lt, false≢true, and_parts, none-some, same_Some, Identity, Opening, Op, State, Has}
-use Rattle.law_run_recovers.proofs.Vocabulary.{Ending, Transaction, table_of, Task, TransactionRun, Doing, Running, After, GoesOn, Ends, execute, Agent, fixed_of, is_idle, has_sense, max_jobs, left, end_of, begins, begin, started, Event}
-use Rattle.law_run_recovers.proofs.Vocabulary.{Actor, server_at, step, run, ended, no_lock, locks_in, locks_at, runs, running_in, world_after}
+use Rattle.law_run_recovers.proofs.Vocabulary.{◌≡◌, ℕ, Bool, true, false, cond, List, [], Option, Some, refl, sym, ap, subst, ◌∙◌, ◌*◌, ◌+◌, false≢true, Identity, Opening, Op, arith, Ending, Transaction, table_of, Task, Doing, Running, execute}
+use Rattle.law_run_recovers.proofs.Vocabulary.{Agent, fixed_of, is_idle, left, end_of, begins, begin, started, Event, Actor, step, run, ended, no_lock, locks_at, runs, running_in, world_after}
 use Rattle.txn_core.specs.Transactions.{Step as CourseStep}
 use Rattle.law_run_recovers.proofs.Steady.{GoesSteadily}
 use Rattle.law_run_recovers.proofs.Executes.{begin_stands}
 use Rattle.law_run_recovers.proofs.NearGround.{its, Known, ground, sight}
 use Rattle.law_run_recovers.proofs.Open.{its_begin, begun_there, begun_servers, begun_runs}
 use Rattle.law_run_recovers.proofs.Serves.{On}
-use Rattle.law_run_recovers.proofs.Stands.{AfterStands, StepStands}
+use Rattle.law_run_recovers.proofs.Stands.{StepStands}
 use Rattle.law_run_recovers.proofs.AmongAt.{HasWhereOpen}
 use Rattle.law_run_recovers.proofs.AmongCourse.{Course, StandsIn, Right, same_service, nil_cons}
 
@@ -22,24 +21,10 @@ module _ (given : Opening) (events later : List Event) (agent t : ℕ) (caller :
       (Known given events later agent t caller site ops actor goes) (ground given events later agent t caller site ops actor goes) step
 
   pub stands_left : (step : CourseStep) → Good step → StandsIn given events later agent t caller site ops actor goes step.cache (left Running step.after)
-  stands_left step = of step.after
-    where
-      of : (after : After TransactionRun)
-          → AfterStands (fixed_of given) (run given events) (sight given events later agent t caller site ops actor goes) (table_of given events) (its given events later agent t caller site ops actor goes) actor.agent.cache
-          (Known given events later agent t caller site ops actor goes) (ground given events later agent t caller site ops actor goes) step.cache after → StandsIn given events later agent t caller site ops actor goes step.cache
-          (left Running after)
-      of (GoesOn txn_run) good = good
-      of (Ends ended) good = tt
+  stands_left step = search arith
 
   pub right_end : (step : CourseStep) → Good step → (ended : Ending) → end_of step.after ≡ Some ended → Right given events later agent t caller site ops actor goes ended
-  right_end step = of step.after
-    where
-      of : (after : After TransactionRun)
-          → AfterStands (fixed_of given) (run given events) (sight given events later agent t caller site ops actor goes) (table_of given events) (its given events later agent t caller site ops actor goes) actor.agent.cache
-          (Known given events later agent t caller site ops actor goes) (ground given events later agent t caller site ops actor goes) step.cache after →
-          (ended : Ending) → end_of after ≡ Some ended → Right given events later agent t caller site ops actor goes ended
-      of (GoesOn txn_run) good ended is = absurd (none-some ended is)
-      of (Ends other) good ended is = subst (Right given events later agent t caller site ops actor goes) (same_Some other ended is) good
+  right_end step = search arith
 
   -- ---- its begin
 
@@ -60,19 +45,11 @@ module _ (given : Opening) (events later : List Event) (agent t : ℕ) (caller :
   first_count = ap (λ b. (cond b (record (started (fixed_of given) actor.agent (Transaction caller site ops)) { count = actor.agent.count + 1 }) actor.agent).count) begun.1
 
   pub idle_before : is_idle actor.agent.doing ≡ true
-  idle_before =
-      (and_parts (is_idle actor.agent.doing) (has_sense (fixed_of given) (Transaction caller site ops))
-      (and_parts (is_idle actor.agent.doing && has_sense (fixed_of given) (Transaction caller site ops)) (nat_lt actor.agent.count max_jobs) begun.1).0).0
+  idle_before = search arith
 
   -- it has no lock
   pub none_there : (server z : ℕ) → On (locks_at (world_after given events agent caller site ops []) server) t z → ⊥
-  none_there server z on =
-      of (server_at (run given events) server) refl
-      (subst (λ found. On (locks_in found) t z) (begun_servers given events later agent t caller site ops actor goes.can goes.there goes.begins server) on)
-    where
-      of : (found : Option State) → server_at (run given events) server ≡ found → On (locks_in (server_at (run given events) server)) t z → ⊥
-      of None at on = subst (λ found. Has (locks_in found) on.lock) at on.has
-      of (Some st) at on = no_lock given goes.can.accepted events agent t (Transaction caller site ops) goes.begins server st at on.lock (subst (λ found. Has (locks_in found) on.lock) at on.has) on.of_it
+  none_there server z on = search (begun_servers, no_lock, arith)
 
   pub first_course : Course given events later agent t caller site ops actor goes []
   first_course = record {
@@ -94,8 +71,7 @@ module _ (given : Opening) (events later : List Event) (agent t : ℕ) (caller :
           ∙ begun_runs given events later agent t caller site ops actor goes.can goes.there goes.begins
 
       busy_so : (doing : Option Doing) → runs t doing ≡ true → is_idle doing ≡ false
-      busy_so None is = absurd (false≢true is)
-      busy_so (Some doing) is = refl
+      busy_so doing h1 = search (false≢true, arith)
 
       none_has : HasWhereOpen given events later agent t caller site ops actor goes (world_after given events agent caller site ops [])
       none_has server z on = absurd (none_there server z on)

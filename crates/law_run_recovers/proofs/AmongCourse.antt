@@ -1,9 +1,9 @@
 -- How a transaction stands that goes steadily, at each moment at which it runs; and what an event that is not its own leaves of that.
-use Rattle.law_run_recovers.proofs.Vocabulary.{◌≡◌, ◌⊎◌, inl, inr, ⊎_elim, ℕ, ◌<◌, Bool, true, false, List, [], ◌∷◌, ◌++◌, Option, Some, None, refl, sym, ap, subst, ◌∙◌, arith, ◌+◌, ◌==◌, ◌||◌, false≢true, eqb-true, eq-eqb, nat_tests}
-use Rattle.law_run_recovers.proofs.Vocabulary.{none-some, Identity, Opening, Prefix, LockMode, Op, PlainTable, State, Has, Cache, forgotten, Transaction, Ending, Suites, Fixed, Task, Phase, Gathering, Fetching, TransactionRun, Doing}
-use Rattle.law_run_recovers.proofs.Vocabulary.{Running, RunningSweep, Agent, fixed_of, is_idle, begin, forget, after_all, after-append, Event, Begin, Step, Crash, Return, Forget, Lack, Actor, World, server_at, actor_at, step, run}
-use Rattle.law_run_recovers.proofs.Vocabulary.{decisions, table_of, names, may_sweep, same_place, agents_ask_for_themselves, holds_of, service_stays, agent_of, agent_at, locks_in, locks_at, runs, running_in, is_running, begun_world}
-use Rattle.law_run_recovers.proofs.Vocabulary.{world_after, robs, hinders_itself, bereaves, shows_same, Replica, all_consistent}
+use Rattle.law_run_recovers.proofs.Vocabulary.{◌≡◌, ◌⊎◌, inl, inr, ⊎_elim, ℕ, ◌<◌, Bool, true, false, List, [], ◌∷◌, ◌++◌, Option, Some, None, refl, sym, ap, subst, ◌∙◌, arith, ◌+◌, ◌==◌, ◌||◌, false≢true, eqb-true, eq-eqb, nat_tests, none-some}
+use Rattle.law_run_recovers.proofs.Vocabulary.{Identity, Opening, Prefix, LockMode, Op, PlainTable, State, Has, Cache, forgotten, Transaction, Ending, Suites, Fixed, Task, Phase, TransactionRun, Doing, Running, RunningSweep, Agent, fixed_of, is_idle}
+use Rattle.law_run_recovers.proofs.Vocabulary.{begin, forget, after_all, after-append, Event, Begin, Step, Crash, Return, Forget, Lack, Actor, World, server_at, actor_at, step, run, decisions, table_of, names, may_sweep, same_place}
+use Rattle.law_run_recovers.proofs.Vocabulary.{agents_ask_for_themselves, holds_of, service_stays, agent_of, agent_at, locks_in, locks_at, runs, running_in, is_running, begun_world, world_after, robs, hinders_itself, bereaves, shows_same, Replica}
+use Rattle.law_run_recovers.proofs.Vocabulary.{all_consistent}
 use Rattle.file_ops.specs.Rows as rows
 use Rattle.rep_core.specs.declared.request.Request.TheVariants as request
 use Rattle.txn_core.specs.Doing as doing
@@ -40,11 +40,7 @@ pub parted : {X : Type 0} (xs : List X) (x : X) (front : List X) (y : X) (back :
 parted [] x [] y back is = inl (refl, sym (ap (head_or x) is), sym (ap tail_or is))
 parted [] x (z ∷ front) y back is = absurd (nil_cons front y back (ap tail_or is))
 parted (w ∷ xs) x [] y back is = inr (xs, ap (λ z. z ∷ xs) (ap (head_or w) is), sym (ap tail_or is))
-parted (w ∷ xs) x (z ∷ front) y back is =
-    ⊎_elim
-    (λ here. inl (ap (λ z. z ∷ front) (sym (ap (head_or w) is)) ∙ ap (λ front. w ∷ front) here.0, here.1, here.2))
-    (λ before. inr (before.0, ap (λ z. z ∷ xs) (ap (head_or w) is) ∙ ap (λ xs. z ∷ xs) before.1, before.2))
-    (parted xs x front y back (ap tail_or is))
+parted (w ∷ xs) x (z ∷ front) y back is = search (parted xs x front y back, arith)
 
 -- ---- at each moment
 
@@ -107,12 +103,7 @@ module _ (given : Opening) (events later : List Event) (agent t : ℕ) (caller :
     pub at : (txn_run.task ≡ task) × PhaseIn txn_run.suites c.here.agent.cache txn_run.phase
 
   pub runs_it : (so_far : List Event) (c : Course so_far) → RunsIt so_far c
-  runs_it so_far c = of c.here.agent.doing refl c.stands c.busy
-    where
-      of : (doing : Option Doing) → c.here.agent.doing ≡ doing → StandsIn c.here.agent.cache doing → is_idle doing ≡ false → RunsIt so_far c
-      of None at stands busy = absurd (false≢true (sym busy))
-      of (Some (RunningSweep sweep_run)) at stands busy = absurd stands
-      of (Some (Running txn_run)) at stands busy = record { txn_run = txn_run; running = at; at = stands }
+  runs_it so_far c = search arith
 
   runs_of : (so_far : List Event) (c : Course so_far) → runs t c.here.agent.doing ≡ true
   runs_of so_far c =
@@ -158,13 +149,7 @@ module _ (given : Opening) (events later : List Event) (agent t : ℕ) (caller :
         (λ server z on. opens_up given events later agent t caller site ops actor goes z (first_asked given events later agent t caller site ops actor goes z) server (c.locks server z on)))
 
     pub spared_on : IsSpared given events later agent t caller site ops actor goes (so_far ++ event ∷ [])
-    spared_on front back other is work = of (parted so_far event front other back is)
-      where
-        of : ((front ≡ so_far) × (other ≡ event) × (back ≡ [])) ⊎ ((rest : List Event) × (so_far ≡ front ++ other ∷ rest) × (back ≡ rest ++ event ∷ [])) → IsCalm given events later agent t caller site ops actor goes front other
-        of (inl here) =
-            subst (λ front. IsCalm given events later agent t caller site ops actor goes front other) (sym here.0)
-            (subst (λ other. IsCalm given events later agent t caller site ops actor goes so_far other) (sym here.1) (calm_now (subst (λ front. IsAtWork (world_after given events agent caller site ops front) agent t) here.0 work)))
-        of (inr before) = c.spared front before.0 other before.1 work
+    spared_on front back other is work = search (parted, calm_now, arith)
 
     -- its locks are where it was open
     pub locks_on : NewOpen so_far event → HasWhereOpen given events later agent t caller site ops actor goes (world_after given events agent caller site ops (so_far ++ event ∷ []))
@@ -246,15 +231,7 @@ module _ (given : Opening) (events later : List Event) (agent t : ℕ) (caller :
 
     -- what it hinted it hints no more than before
     forgets : (site' : ℕ) (now : Cache) (doing : Option Doing) → StandsIn now doing → StandsIn (forgotten site' now) doing
-    forgets site' now None stands = tt
-    forgets site' now (Some (RunningSweep sweep_run)) stands = stands
-    forgets site' now (Some (Running txn_run)) stands = (stands.0, of txn_run.suites txn_run.phase stands.1)
-      where
-        of : (suites : Suites) (phase : Phase) → PhaseIn suites now phase → PhaseIn suites (forgotten site' now) phase
-        of suites (Gathering z) at = (at.0, λ z none prefix hinted. at.1 z none prefix (hint_forgotten site' site z now prefix hinted))
-        of suites (Fetching z) at = (at.0, λ z none prefix hinted. at.1 z none prefix (hint_forgotten site' site z now prefix hinted))
-        of suites (doing.Widening (z ∷ left) granted) at = at
-        of suites other at = at
+    forgets site' now doing h3 = grind (hint_forgotten, arith)
 
     -- it goes on, and was told no more, or to forget a site
     pub aside_on : Apart given agent (world_after given events agent caller site ops so_far) c.here c.there c.busy (step (fixed_of given) (world_after given events agent caller site ops so_far) event) → TellsNone so_far event

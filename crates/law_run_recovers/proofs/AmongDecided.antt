@@ -1,11 +1,10 @@
 -- What was decided of a transaction that goes steadily had its home up and its votes open, whether or not its agent went on to the end.
-use Rattle.law_run_recovers.proofs.Vocabulary.{◌≡◌, ◌⊎◌, inl, inr, ⊎_elim, ℕ, ◌<◌, true, List, [], ◌∷◌, ◌++◌, append_assoc, Option, Some, None, is_some, Result, Ok, Err, refl, sym, ap, subst, ◌∙◌, arith, ◌+◌, ◌*◌, ◌==◌, ◌&&◌, find}
-use Rattle.law_run_recovers.proofs.Vocabulary.{Contains, list_any, cons_option, false≢true, eqb-true, eq-eqb, none-some, same_Some, Identity, Opening, LockMode, serves, Answer, Refusal, Op, Has, has_from, has_any, Request, Ending, Refused}
-use Rattle.law_run_recovers.proofs.Vocabulary.{Transaction, ReadPoint, GatheredSuite, suite_of, Running, home_of, request_in, decision_of, Agent, fixed_of, next_in, next_of, EndedJob, Event, Begin, Step, Actor, World, server_at, actor_at}
-use Rattle.law_run_recovers.proofs.Vocabulary.{asks_at, asks, steps_once, step, run, Decided, decided, decided_by, decisions, decisions_from, task_of, task_at, table_of, IsAnsweredAsKnown, Runs, IsAt, EndStands, same_place}
-use Rattle.law_run_recovers.proofs.Vocabulary.{answers_follow_knowledge, holds_of, In, agent_of, agent_at, is_decided, is_up, runs, world_after, first_wanting, has_votes_open, is_gathered, GathersItsAsks, has_asked, locks_asked, asks_for}
-use Rattle.law_run_recovers.proofs.Vocabulary.{wants, answer_on, EndsThen, WasDecidedThen, Always, AreAnsweredAsBegun, GatherTheirAsks, GoesAmongLocks, HadVotesOpen, UnmetHadVotesUpAt, any_has, begun_world}
-use Rattle.txn_core.specs.declared.ending.Ending.TheVariants.{Answered}
+use Rattle.law_run_recovers.proofs.Vocabulary.{◌≡◌, ◌⊎◌, inl, inr, ⊎_elim, ℕ, ◌<◌, true, List, [], ◌∷◌, ◌++◌, append_assoc, Option, Some, None, is_some, Result, refl, sym, ap, subst, ◌∙◌, arith, ◌+◌, ◌*◌, ◌==◌, ◌&&◌, find, Contains, list_any}
+use Rattle.law_run_recovers.proofs.Vocabulary.{cons_option, false≢true, eqb-true, eq-eqb, none-some, same_Some, Identity, Opening, LockMode, serves, Answer, Refusal, Op, Has, has_from, has_any, Request, Ending, Transaction, ReadPoint, GatheredSuite}
+use Rattle.law_run_recovers.proofs.Vocabulary.{suite_of, Running, home_of, request_in, decision_of, Agent, fixed_of, next_in, next_of, EndedJob, Event, Begin, Step, Actor, World, server_at, actor_at, asks_at, asks, steps_once, step, run, Decided}
+use Rattle.law_run_recovers.proofs.Vocabulary.{decided, decided_by, decisions, decisions_from, task_of, task_at, table_of, IsAnsweredAsKnown, Runs, IsAt, EndStands, same_place, answers_follow_knowledge, holds_of, In, agent_of, agent_at, is_decided}
+use Rattle.law_run_recovers.proofs.Vocabulary.{is_up, runs, world_after, first_wanting, has_votes_open, is_gathered, GathersItsAsks, has_asked, locks_asked, asks_for, wants, answer_on, EndsThen, WasDecidedThen, Always, AreAnsweredAsBegun}
+use Rattle.law_run_recovers.proofs.Vocabulary.{GatherTheirAsks, GoesAmongLocks, HadVotesOpen, UnmetHadVotesUpAt, any_has, begun_world}
 use Rattle.rep_core.specs.declared.request.Request.TheVariants as request
 use Rattle.txn_core.specs.Doing as doing
 use Rattle.law_run_recovers.proofs.Steady.{GoesSteadily, steady}
@@ -132,8 +131,7 @@ module _ (given : Opening) (events later : List Event) (agent t : ℕ) (caller :
             of : (outcome : doing.Proposal) → PhaseIn given events later agent t caller site ops actor goes so.txn_run.suites c.here.agent.cache (doing.Deciding outcome)
                 → HasAll (fixed_of given) (run given events) (sight given events later agent t caller site ops actor goes) (table_of given events) (its given events later agent t caller site ops actor goes)
                 actor.agent.cache so.txn_run.suites (answer_as outcome)
-            of (Ok granted) has = has
-            of (Err refusal) has = has
+            of outcome h1 = search arith
 
     course_answered : Course given events later agent t caller site ops actor goes so_far → one.answer ≡ answer_on (table_of given events) t caller ops
     course_answered c = answer_so ∙ (all_had c).answer_is ∙ ap (λ n. answer_on (table_of given events) n caller ops) (number given events later agent t caller site ops actor goes)
@@ -144,12 +142,10 @@ module _ (given : Opening) (events later : List Event) (agent t : ℕ) (caller :
         held_so (suite_of so.txn_run.suites z) ∙ (all_had c).gathered z mode ∙ ap (λ n. has_asked (locks_asked (table_of given events) n caller ops) z mode) (number given events later agent t caller site ops actor goes)
       where
         of_first : (suite : GatheredSuite) (first : Option ReadPoint) → (is_some first && serves suite.mode mode) ≡ held_if suite mode first
-        of_first suite (Some point) = refl
-        of_first suite None = refl
+        of_first suite first = search arith
 
         held_so : (found : Option GatheredSuite) → is_gathered mode found ≡ held_in mode found
-        held_so (Some suite) = of_first suite suite.first
-        held_so None = refl
+        held_so found = search (of_first, arith)
 
     gathers_so : Course given events later agent t caller site ops actor goes so_far → GathersItsAsks given events later agent t caller site ops
     gathers_so c = record {
@@ -216,9 +212,7 @@ module _ (given : Opening) (events later : List Event) (agent t : ℕ) (caller :
         of : (found : Option Decided) → decided (fixed_of given) (world_after given events agent caller site ops so_far) event ≡ found
             → (Has (decisions_from (fixed_of given) (step (fixed_of given) (world_after given events agent caller site ops so_far) event).world rest) one → Q one)
             → Has (cons_option found (decisions_from (fixed_of given) (step (fixed_of given) (world_after given events agent caller site ops so_far) event).world rest)) one → Q one
-        of None is go has = go has
-        of (Some other) is go (inl now) = each so_far rest event split one (is ∙ ap (λ one. Some one) now) of_it state
-        of (Some other) is go (inr after) = go after
+        of found h1 h2 h3 = search arith
 
     decided_all : (one : Decided) → Has (decisions_from (fixed_of given) (begun_world given events agent caller site ops) later) one → one.t ≡ t → Q one
     decided_all = decided_in later [] refl (inl (first_course given events later agent t caller site ops actor goes))
@@ -251,14 +245,11 @@ module _ (given : Opening) (events later : List Event) (agent t : ℕ) (caller :
     where
       stands : (answer : Result (List Answer) Refusal) → In (decisions given (events ++ Begin agent (Transaction caller site ops) ∷ later)) (64 * job.count + job.agent) answer
           → list_any (λ (one : Decided). one.t == t) (decisions given (events ++ Begin agent (Transaction caller site ops) ∷ later)) ≡ true
-      stands answer is =
-          has_any (λ (one : Decided). one.t == t) (decisions given (events ++ Begin agent (Transaction caller site ops) ∷ later)) is.decision is.there (eq-eqb is.decision.t t (is.of_it ∙ ends.of_it))
+      stands answer is = search (has_any, eq-eqb, arith)
 
       of : (ended : Ending) → EndStands (decisions given (events ++ Begin agent (Transaction caller site ops) ∷ later)) (64 * job.count + job.agent) ended → is_decided ended ≡ true
           → list_any (λ (one : Decided). one.t == t) (decisions given (events ++ Begin agent (Transaction caller site ops) ∷ later)) ≡ true
-      of (Answered answers) is decided' = stands (Ok answers) is
-      of (Refused refusal) is decided' = stands (Err refusal) is
-      of other is decided' = absurd (false≢true decided')
+      of ended h1 h2 = search (stands, false≢true, arith)
 
   pub was_had : WasDecidedThen given events later agent t caller site ops → has_votes_open given events t caller ops ≡ true
   was_had was = ⊎_elim (λ some. stood_had some) (λ it. among_had given events later agent t caller site ops actor goes it.0 it.1 it.2) was
@@ -267,18 +258,13 @@ module _ (given : Opening) (events later : List Event) (agent t : ℕ) (caller :
   was_gathered was = ⊎_elim (λ some. stood_gathered some) (λ it. stood_gathered (ended_stands it.0 it.1 it.2)) was
 
 pub among_locks_gather_their_asks : Always (GatherTheirAsks GoesAmongLocks)
-among_locks_gather_their_asks given events later agent t caller site ops actor goes was =
-    was_gathered given events later agent t caller site ops actor (steady given events later agent t caller site ops actor goes) was
+among_locks_gather_their_asks given events later agent t caller site ops actor goes was = search (was_gathered, steady, arith)
 
 pub among_locks_are_answered_as_begun : Always (AreAnsweredAsBegun GoesAmongLocks)
-among_locks_are_answered_as_begun given events later agent t caller site ops actor goes one there of_it =
-    answered_begun given events later agent t caller site ops actor (steady given events later agent t caller site ops actor goes) one there of_it
+among_locks_are_answered_as_begun given events later agent t caller site ops actor goes one there of_it = search (answered_begun, steady, arith)
 
 pub among_locks_had_votes_open : Always (HadVotesOpen GoesAmongLocks)
-among_locks_had_votes_open given events later agent t caller site ops actor goes was =
-    was_had given events later agent t caller site ops actor (steady given events later agent t caller site ops actor goes) was
+among_locks_had_votes_open given events later agent t caller site ops actor goes was = search (was_had, steady, arith)
 
 pub unmet_had_votes_up : Always UnmetHadVotesUpAt
-unmet_had_votes_up given events later agent t caller site ops actor goes was =
-    open_is_more given events t caller ops
-    (among_locks_had_votes_open given events later agent t caller site ops actor (unmet_is_among_locks given events later agent t caller site ops actor goes) was)
+unmet_had_votes_up given events later agent t caller site ops actor goes was = search (open_is_more, among_locks_had_votes_open, unmet_is_among_locks, arith)

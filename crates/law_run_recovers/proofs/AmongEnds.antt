@@ -1,7 +1,7 @@
 -- A transaction that goes steadily ends as the votes say that are open: all along.
-use Rattle.law_run_recovers.proofs.Vocabulary.{◌≡◌, ◌⊎◌, inl, inr, ⊎_elim, ℕ, ◌<◌, Bool, true, false, List, [], ◌∷◌, ◌++◌, append_assoc, Option, Some, None, is_some, refl, sym, ap, subst, ◌∙◌, arith, Contains, cons_option, none-some}
-use Rattle.law_run_recovers.proofs.Vocabulary.{same_Some, Identity, Opening, Op, Has, has_from, Transaction, Agent, fixed_of, next_in, Event, Begin, Step, EndedJob, Actor, World, Stepped, opening, step, dones, done_in, outcomes, run}
-use Rattle.law_run_recovers.proofs.Vocabulary.{dones-append, outcomes-append, ended, number_of, same_place, holds_of, append_has_left, append_has_right, agent_of, agent_at, begun_world, hinders_itself, world_after}
+use Rattle.law_run_recovers.proofs.Vocabulary.{◌≡◌, ◌⊎◌, inl, inr, ⊎_elim, ℕ, ◌<◌, Bool, true, false, List, [], ◌∷◌, ◌++◌, append_assoc, Option, Some, None, is_some, refl, sym, ap, subst, ◌∙◌, arith, Contains, cons_option, none-some, same_Some}
+use Rattle.law_run_recovers.proofs.Vocabulary.{Identity, Opening, Op, Has, has_from, Transaction, Agent, fixed_of, next_in, Event, Begin, Step, EndedJob, Actor, World, Stepped, step, dones, outcomes, run, dones-append, outcomes-append, ended}
+use Rattle.law_run_recovers.proofs.Vocabulary.{number_of, same_place, holds_of, append_has_left, append_has_right, agent_of, agent_at, begun_world, hinders_itself, world_after}
 use Rattle.law_run_recovers.proofs.Steady.{GoesSteadily}
 use Rattle.law_run_recovers.proofs.Apart.{event_apart, who_ends}
 use Rattle.law_run_recovers.proofs.Keeps.{run_at}
@@ -25,29 +25,13 @@ module _ (given : Opening) (events later : List Event) (agent t : ℕ) (caller :
 
   ended_more : (so_far : List Event) (event : Event) → ended given (events ++ Begin agent (Transaction caller site ops) ∷ (so_far ++ event ∷ []))
       ≡ ended given (events ++ Begin agent (Transaction caller site ops) ∷ so_far) ++ cons_option (step (fixed_of given) (world_after given events agent caller site ops so_far) event).done.outcome []
-  ended_more so_far event =
-      ap (ended given) (sym (append_assoc events (Begin agent (Transaction caller site ops) ∷ so_far) (event ∷ [])))
-      ∙ ap outcomes (dones-append (fixed_of given) (opening given) (events ++ Begin agent (Transaction caller site ops) ∷ so_far) (event ∷ []))
-      ∙ outcomes-append (done_in given (events ++ Begin agent (Transaction caller site ops) ∷ so_far)) (dones (fixed_of given) (run given (events ++ Begin agent (Transaction caller site ops) ∷ so_far)) (event ∷ []))
-      ∙ ap (λ w. ended given (events ++ Begin agent (Transaction caller site ops) ∷ so_far) ++ outcomes (dones (fixed_of given) w (event ∷ [])))
-      (sym (run_at given events later agent t caller site ops actor goes.can goes.there goes.begins so_far))
+  ended_more so_far event = search (append_assoc, dones-append, outcomes-append, run_at, arith)
 
   pub over_on : (so_far : List Event) (event : Event) → Over so_far → Over (so_far ++ event ∷ [])
-  over_on so_far event over = (
-    over.0,
-    subst (λ all. Has all over.0) (sym (ended_more so_far event))
-        (append_has_left (ended given (events ++ Begin agent (Transaction caller site ops) ∷ so_far)) (cons_option (step (fixed_of given) (world_at so_far) event).done.outcome []) over.0 over.1),
-    over.2,
-  )
+  over_on so_far event over = search (ended_more, append_has_left, arith)
 
   pub over_now : (so_far : List Event) (event : Event) (one : EndedJob) → (step (fixed_of given) (world_after given events agent caller site ops so_far) event).done.outcome ≡ Some one → number_of one ≡ t → Over (so_far ++ event ∷ [])
-  over_now so_far event one is number = (
-    one,
-    subst (λ all. Has all one) (sym (ended_more so_far event))
-        (append_has_right (ended given (events ++ Begin agent (Transaction caller site ops) ∷ so_far)) (cons_option (step (fixed_of given) (world_at so_far) event).done.outcome []) one
-        (subst (λ found. Has (cons_option found []) one) (sym is) (inl refl))),
-    number,
-  )
+  over_now so_far event one is number = search (ended_more, append_has_right, arith)
 
   pub small_at : (so_far : List Event) (i : ℕ) (a : Agent) → agent_at (world_after given events agent caller site ops so_far) i ≡ Some a → i < 64
   small_at so_far i a at =
@@ -112,8 +96,7 @@ module _ (given : Opening) (events later : List Event) (agent t : ℕ) (caller :
 
     own_took_so : event ≡ Step agent → is_some (step (fixed_of given) (world_after given events agent caller site ops so_far) event).done.served ≡ true
         → OwnTook (fixed_of given) (world_after given events agent caller site ops so_far) agent c.here c.there (step (fixed_of given) (world_after given events agent caller site ops so_far) (Step agent))
-    own_took_so is served =
-        own_took (fixed_of given) (world_at so_far) agent c.here c.there (subst (λ event. is_some (step (fixed_of given) (world_after given events agent caller site ops so_far) event).done.served ≡ true) is served)
+    own_took_so is served = search (own_took, arith)
 
     -- it goes on, or has ended
     pub state_on : Course given events later agent t caller site ops actor goes (so_far ++ event ∷ []) ⊎ Over (so_far ++ event ∷ [])

@@ -1,9 +1,9 @@
 -- What a transaction that goes steadily knows after a step of it is so on the table of its begin, whatever others have decided since.
-use Rattle.law_run_recovers.proofs.Vocabulary.{◌≡◌, ◌≢◌, true, false, List, [], ◌∷◌, ◌++◌, append_assoc, Option, Some, None, refl, sym, ap, subst, ◌∙◌, ℕ, ◌==◌, unwrap_or, nat_cmp, false≢true, and_parts, eqb-true, none-some, IsOrdered}
-use Rattle.law_run_recovers.proofs.Vocabulary.{Identity, Opening, Prefix, Replica, Shared, Op, row_of, AgreesWith, IsSoAt, Lock, Verdict, is_own, lock_at, State, record_of, Has, find_some, Transaction, ReadPoint, GatheredSuite, suite_of}
-use Rattle.law_run_recovers.proofs.Vocabulary.{known_of, TransactionRun, Running, fixed_of, is_decide, Event, Begin, Step, Actor, World, server_at, actor_at, step, run, table_of, row, IsKnown, Answered, IsQuorum, effect, beginning, hold_of}
-use Rattle.law_run_recovers.proofs.Vocabulary.{showed, showed_to, known_by, machine_of, servers_of, OwesKnown, register, row_shown, all_shown, CanBe, all_keep, holds_after, known_owed, no_record, Stands, all_consistent, is_resolve}
-use Rattle.law_run_recovers.proofs.Vocabulary.{locks_in, locks_at, is_open_way, is_open_at, way_in, shows_same, begun_world, world_after}
+use Rattle.law_run_recovers.proofs.Vocabulary.{◌≡◌, ◌≢◌, true, false, List, [], ◌∷◌, ◌++◌, append_assoc, Option, Some, None, refl, sym, ap, subst, ◌∙◌, ℕ, ◌==◌, unwrap_or, nat_cmp, false≢true, and_parts, eqb-true, none-some, IsOrdered, arith}
+use Rattle.law_run_recovers.proofs.Vocabulary.{Identity, Opening, Prefix, Replica, Shared, Op, row_of, AgreesWith, IsSoAt, Lock, Verdict, is_own, lock_at, State, record_of, Has, find_some, Transaction, ReadPoint, GatheredSuite, suite_of, known_of}
+use Rattle.law_run_recovers.proofs.Vocabulary.{TransactionRun, Running, fixed_of, is_decide, Event, Begin, Step, Actor, World, server_at, actor_at, step, run, table_of, row, IsKnown, Answered, IsQuorum, effect, beginning, hold_of, showed, showed_to}
+use Rattle.law_run_recovers.proofs.Vocabulary.{known_by, machine_of, servers_of, OwesKnown, register, row_shown, all_shown, CanBe, all_keep, holds_after, known_owed, no_record, Stands, all_consistent, is_resolve, locks_in, locks_at, is_open_way}
+use Rattle.law_run_recovers.proofs.Vocabulary.{is_open_at, way_in, shows_same, begun_world, world_after}
 use Rattle.law_suite_machine.specs.Machine.{Hold, Told}
 use Rattle.file_exec.specs.Known as known
 use Rattle.rep_core.specs.State as state
@@ -126,8 +126,7 @@ module _ (given : Opening) (events later : List Event) (agent t : ℕ) (caller :
         lock_it i is = of ((machine_of given z all).told i more.task.t) refl is
           where
             there_lock : (at : Option State) → server_at (run given all) i ≡ at → (lock : Lock) → Has (unwrap_or at (state.opening i given)).locks lock → lock.t ≡ t → lock.suite ≡ z → On (locks_at (world_at next) i) t z
-            there_lock None at lock has of_it on_it = absurd has
-            there_lock (Some st) at lock has of_it on_it = record { lock = lock; has = subst (λ locks. Has locks lock) (sym (ap (λ w. locks_at w i) is_run ∙ ap locks_in at)) has; of_it = of_it; on_it = on_it }
+            there_lock at h1 lock h3 h4 h5 = search (is_run, arith)
 
             by_lock : (one : Option Lock) → lock_at more.task.t z (servers_of given (run given all) i).locks ≡ one → (hold : Hold) → hold_of one ≡ Some hold → On (locks_at (world_at next) i) t z
             by_lock None at hold some = absurd (none-some hold some)

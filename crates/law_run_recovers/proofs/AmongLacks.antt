@@ -1,7 +1,7 @@
 -- A step of a transaction that is not served, or of which its agent is told so, once its end is fixed: it goes on to tell its end.
-use Rattle.law_run_recovers.proofs.Vocabulary.{◌≡◌, ◌⊎◌, inl, inr, ℕ, Bool, true, false, List, [], ◌∷◌, ◌++◌, Some, refl, sym, ap, subst, ◌∙◌, arith, ◌-◌, ◌||◌, false≢true, none-some, Identity, Opening, Op, Verdict, Ending, Transaction}
-use Rattle.law_run_recovers.proofs.Vocabulary.{Task, Phase, Finishing, TransactionRun, Running, After, GoesOn, Ends, after_lack, Agent, Taken, fixed_of, is_idle, next_of, left, end_of, with_step, take_in, take, begin, after-append, Event}
-use Rattle.law_run_recovers.proofs.Vocabulary.{EndedJob, Actor, World, actor_at, one_more, outcome_of, step, Stepped, ended, number_of, take_keeps, world_after, hinders_itself, robs, Lacked, nat_tests}
+use Rattle.law_run_recovers.proofs.Vocabulary.{◌≡◌, ◌⊎◌, inl, inr, ℕ, Bool, true, false, List, [], ◌∷◌, ◌++◌, Some, refl, sym, ap, subst, ◌∙◌, arith, ◌-◌, ◌||◌, false≢true, none-some, Identity, Opening, Op, Verdict, Ending, Transaction, Task, Phase}
+use Rattle.law_run_recovers.proofs.Vocabulary.{Finishing, TransactionRun, Running, After, GoesOn, Ends, after_lack, Agent, Taken, fixed_of, is_idle, next_of, left, end_of, with_step, take_in, take, begin, after-append, Event, EndedJob, Actor, World}
+use Rattle.law_run_recovers.proofs.Vocabulary.{actor_at, one_more, outcome_of, step, Stepped, ended, number_of, take_keeps, world_after, hinders_itself, robs, Lacked, nat_tests}
 use Rattle.txn_core.specs.Transactions.{Step as CourseStep}
 use Rattle.txn_core.specs.Agents as agents
 use Rattle.law_run_recovers.proofs.Steady.{GoesSteadily}
@@ -69,8 +69,7 @@ module _ (given : Opening) (events later : List Event) (agent t : ℕ) (caller :
         where
           of : (servers : List ℕ) → PhaseIn given events later agent t caller site ops actor goes r'.txn_run.suites c.here.agent.cache (Finishing servers tells_now.v tells_now.ending)
               → Good given events later agent t caller site ops actor goes (lack_step its_task (Finishing servers tells_now.v tells_now.ending))
-          of (first ∷ (next ∷ servers)) right = (refl, right)
-          of other right = (r'.txn_run.suites, right)
+          of servers h1 = search arith
 
       here_lack : lacks.new.agent ≡ (with_step c.here.agent (lack_step r'.txn_run.task r'.txn_run.phase)).agent
       here_lack = lacks.took ∙ ap (λ (taken : Taken). taken.agent) lack_taken
@@ -93,10 +92,7 @@ module _ (given : Opening) (events later : List Event) (agent t : ℕ) (caller :
       lack_on = of (lack_step r'.txn_run.task r'.txn_run.phase).after refl
         where
           number_ended : (one : EndedJob) → one.agent ≡ agent → one.count ≡ c.here.agent.count - 1 → number_of one ≡ t
-          number_ended one at count =
-              let counts = c.count in
-              let first = (begun given events later agent t caller site ops actor goes).0 in
-              omega (arith, at, count, counts, first)
+          number_ended one at count = grind (begun, arith)
 
           of : (after : After TransactionRun) → (lack_step r'.txn_run.task r'.txn_run.phase).after ≡ after → LackOn
           of (GoesOn more) is = inl (

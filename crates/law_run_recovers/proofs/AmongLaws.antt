@@ -1,10 +1,9 @@
 -- What is promised to a transaction that goes steadily, by the servers that are open to it; as one that goes among locks that stay.
-use Rattle.law_run_recovers.proofs.Vocabulary.{◌≡◌, ◌⊎◌, inl, inr, ℕ, Bool, true, false, cond, List, [], ◌∷◌, ◌++◌, append-nil, length, Option, Some, None, refl, sym, ap, subst, ◌∙◌, ◌==◌, ◌&&◌, not, nat_lt, map, find, Contains, false≢true}
-use Rattle.law_run_recovers.proofs.Vocabulary.{and_parts, eq-eqb, eqb-true, Identity, Representative, votes_in, Opening, Prefix, LockMode, Op, Row, row_of, State, find_some, Has, any_has, has_any, has_from, has_map, contains_from}
-use Rattle.law_run_recovers.proofs.Vocabulary.{needed_of, Ending, Undecided, Unavailable, has_vote, home_of, fixed_of, Event, EndedJob, Actor, World, server_at, run, table_of, has_append, machine_of, all_keep, is_decided, up_in, is_up}
-use Rattle.law_run_recovers.proofs.Vocabulary.{Demand, is_met, all_met, led_to_by, votes_set, votes_of_row, MayStart, MayStartAll, HasFirstVotes, answer_on, asks_for, is_open_way, is_way_met, way_in, way_at, is_open_at, in_its_way}
-use Rattle.law_run_recovers.proofs.Vocabulary.{EndsOpenly, EndsByOpenVotes, first_wanting, has_votes_open, Want, open_demand, open_demands, first_mode, wants, wants_of_rows, EndsThen, VotesNeverMovedOf, Always, AmongLocksEndByVotesAt}
-use Rattle.law_run_recovers.proofs.Vocabulary.{AreDecidedWhereOpen, GoesAmongLocks}
+use Rattle.law_run_recovers.proofs.Vocabulary.{◌≡◌, ◌⊎◌, inl, inr, ℕ, Bool, true, false, cond, List, [], ◌∷◌, append-nil, length, Option, Some, None, refl, sym, ap, subst, ◌∙◌, ◌&&◌, not, nat_lt, map, find, Contains, arith, and_parts, eq-eqb}
+use Rattle.law_run_recovers.proofs.Vocabulary.{eqb-true, Identity, Representative, votes_in, Opening, Prefix, LockMode, Op, Row, row_of, State, find_some, Has, any_has, has_any, has_from, has_map, contains_from, needed_of, Ending, Undecided}
+use Rattle.law_run_recovers.proofs.Vocabulary.{Unavailable, has_vote, home_of, fixed_of, Event, EndedJob, Actor, World, server_at, run, table_of, has_append, machine_of, all_keep, is_decided, up_in, is_up, Demand, is_met, all_met, led_to_by}
+use Rattle.law_run_recovers.proofs.Vocabulary.{votes_of_row, MayStart, MayStartAll, HasFirstVotes, asks_for, is_open_way, is_way_met, way_in, is_open_at, in_its_way, EndsOpenly, EndsByOpenVotes, first_wanting, has_votes_open, Want, open_demand}
+use Rattle.law_run_recovers.proofs.Vocabulary.{open_demands, first_mode, wants, wants_of_rows, EndsThen, VotesNeverMovedOf, Always, AmongLocksEndByVotesAt, AreDecidedWhereOpen, GoesAmongLocks}
 use Rattle.law_one_table.proofs.Effects as effects
 use Rattle.law_run_recovers.proofs.Steady.{GoesSteadily, steady}
 use Rattle.law_run_recovers.proofs.Leading.{led}
@@ -15,7 +14,7 @@ use Rattle.law_run_recovers.proofs.Picks.{votes_alike}
 use Rattle.law_run_recovers.proofs.Rows.{start_was}
 use Rattle.law_run_recovers.proofs.Stands.{of_lock, of_votes, demand_of, unmet, wants_of, EndsAs}
 use Rattle.law_run_recovers.proofs.AmongEnds.{among_ends}
-use Rattle.law_run_recovers.proofs.Unmoved.{decided_by, first_votes_at}
+use Rattle.law_run_recovers.proofs.Unmoved.{first_votes_at}
 
 -- ---- lists
 
@@ -30,12 +29,10 @@ find_members f g (x ∷ xs) same = ap (λ b. cond b (Some x) (find f xs)) (same 
 -- ---- ways
 
 open_not_met : (way : Option (Option ℕ)) → is_open_way way ≡ true → is_way_met way ≡ false
-open_not_met (Some (Some other)) is = absurd (false≢true is)
-open_not_met other is = refl
+open_not_met way h1 = search arith
 
 down_not_met : (t z : ℕ) (mode : LockMode) (found : Option State) → up_in found ≡ false → is_way_met (way_in t z mode found) ≡ false
-down_not_met t z mode None down = refl
-down_not_met t z mode (Some st) down = ap (λ b. is_way_met (cond b (way_in t z mode (Some (record st { up = true }))) None)) down
+down_not_met t z mode found h4 = search arith
 
 -- ---- all is to be had, or not
 
@@ -45,11 +42,7 @@ none_in (Some want) = false
 
 pub all_is : (world : World) (t : ℕ) (all : List Want) → all_met (open_demands world t all) ≡ none_in (first_wanting world t all)
 all_is world t [] = refl
-all_is world t (want ∷ all) =
-    elim (is_met (open_demand world t want)) as (λ b. (b && all_met (open_demands world t all)) ≡ none_in (cond (not b) (Some want) (first_wanting world t all))) [
-      | true ↦ all_is world t all
-      | false ↦ refl
-    ]
+all_is world t (want ∷ all) = search (all_is world t all, arith)
 
 module _ (given : Opening) (events later : List Event) (agent t : ℕ) (caller : Identity) (site : ℕ) (ops : List Op) (actor : Actor) (goes : GoesSteadily given events later agent t caller site ops actor) where
   abbrev world : World
@@ -79,13 +72,10 @@ module _ (given : Opening) (events later : List Event) (agent t : ℕ) (caller :
   IsNear want = (server : ℕ) → has_vote want.votes server ≡ true → goes.near server ≡ true
 
   voter_near : (want : Want) → IsNear want → (rep : Representative) → Has want.votes.reps rep → nat_lt 0 rep.1 ≡ true → goes.near rep.0 ≡ true
-  voter_near want near rep has some =
-      near rep.0 (has_any (λ (other : Representative). (other.0 == rep.0) && nat_lt 0 other.1) want.votes.reps rep has (ap (λ b. b && nat_lt 0 rep.1) (eq-eqb rep.0 rep.0 refl) ∙ some))
+  voter_near want near rep has some = search (has_any, nat_lt, eq-eqb, arith)
 
   votes_same : (want : Want) → IsNear want → votes_in want.votes.reps (its_sight want.suite want.mode) ≡ votes_in want.votes.reps (is_open_at (run given events) t want.suite want.mode)
-  votes_same want near =
-      votes_alike want.votes.reps (its_sight want.suite want.mode) (is_open_at (run given events) t want.suite want.mode)
-      (λ rep has some. ap (λ b. b && is_open_at (run given events) t want.suite want.mode rep.0) (voter_near want near rep has some))
+  votes_same want near = search (votes_alike, voter_near, arith)
 
   the_demand : Demand → Demand
   the_demand one = one
@@ -97,19 +87,8 @@ module _ (given : Opening) (events later : List Event) (agent t : ℕ) (caller :
   abbrev all_wants : (ℕ → Prefix) → List Want
   all_wants start = wants (fixed_of given) (run given events) (table_of given events) t caller ops start
 
-  abbrev lock_want : (ℕ → Prefix) → ℕ × LockMode → Want
-  lock_want start one = record { suite = one.0; mode = one.1; votes = (found_by one (start one.0)).votes }
-
   wants_near : (start : ℕ → Prefix) → MayStartAll (fixed_of given) actor.agent.cache site start → (want : Want) → Has (all_wants start) want → IsNear want
-  wants_near start may want has = of (has_append (map (lock_want start) asked) (map of_votes (votes_set (table_of given events) t caller ops)) want has)
-    where
-      of : Has (map (lock_want start) (asks_for given events t caller ops)) want ⊎ Has (map of_votes (votes_set (table_of given events) t caller ops)) want → IsNear want
-      of (inl lock) =
-          let one = has_map (lock_want start) asked want lock in
-          subst IsNear one.2 (found_near one.0 (contains_from asked one.0 one.1) (start one.0.0) (may one.0.0)).1
-      of (inr set) =
-          let one = has_map of_votes (votes_set (table_of given events) t caller ops) want set in
-          subst IsNear one.2 (λ server vote. goes.are_near.set one.0 server (contains_from (votes_set (table_of given events) t caller ops) one.0 one.1) vote)
+  wants_near start may want has = search (has_append, of_votes, has_map, found_near, contains_from, arith)
 
   the_want : Want → Want
   the_want one = one
@@ -117,25 +96,18 @@ module _ (given : Opening) (events later : List Event) (agent t : ℕ) (caller :
   wants_same : (start : ℕ → Prefix) → MayStartAll (fixed_of given) actor.agent.cache site start
       → wants_of (fixed_of given) (run given events) (sight given events later agent t caller site ops actor goes) (table_of given events) t caller ops start ≡ all_wants start
   unfolding the_want
-  wants_same start may =
-      ap (λ front. front ++ map of_votes (votes_set (table_of given events) t caller ops))
-      (map_members (of_lock (fixed_of given) (run given events) (sight given events later agent t caller site ops actor goes) start) (lock_want start) asked
-      (λ one has. ap (λ (prefix : Prefix). the_want (record { suite = one.0; mode = one.1; votes = prefix.votes })) (sym (found_near one (contains_from asked one has) (start one.0) (may one.0)).0)))
+  wants_same start may = search (the_want, of_votes, map_members, of_lock, sight, found_near, contains_from, arith)
 
   -- the first that is not to be had is the same
   pub first_same : (start : ℕ → Prefix) → MayStartAll (fixed_of given) actor.agent.cache site start
       → find (unmet (sight given events later agent t caller site ops actor goes)) (wants_of (fixed_of given) (run given events) (sight given events later agent t caller site ops actor goes) (table_of given events) t caller ops start)
       ≡ first_wanting (run given events) t (all_wants start)
-  first_same start may =
-      ap (find (unmet (sight given events later agent t caller site ops actor goes))) (wants_same start may)
-      ∙ find_members (unmet (sight given events later agent t caller site ops actor goes)) (λ (want : Want). not (is_met (open_demand (run given events) t want))) (all_wants start)
-      (λ want has. ap (λ demand. not (is_met demand)) (demand_same want (wants_near start may want has)))
+  first_same start may = search (unmet, sight, wants_same, find_members, demand_same, wants_near, arith)
 
   -- ---- how it ends
 
   is_holder_so : (holder : ℕ) (way : Option (Option ℕ)) → is_holder given events later agent t caller site ops actor goes holder way ≡ true → way ≡ Some (Some holder)
-  is_holder_so holder (Some (Some other)) is = ap (λ n. Some (Some n)) (eqb-true other holder is)
-  is_holder_so holder other is = absurd (false≢true is)
+  is_holder_so holder way h2 = search arith
 
   abbrev EndsAsAt : ℕ → Ending → Option Want → Type 0
   EndsAsAt n ended found =
@@ -152,23 +124,8 @@ module _ (given : Opening) (events later : List Event) (agent t : ℕ) (caller :
       })
     where
       free : (rep : Representative) → (its_sight want.suite want.mode rep.0 ≡ true) ⊎ (is_up (run given events) rep.0 ≡ false) → in_its_way (run given events) t want.suite want.mode rep.0 ≡ false
-      free rep (inl open') = open_not_met (way_at (run given events) t want.suite want.mode rep.0) (and_parts (goes.near rep.0) (is_open_at (run given events) t want.suite want.mode rep.0) open').1
-      free rep (inr down) = down_not_met t want.suite want.mode (server_at (run given events) rep.0) down
-  openly start may ended (Some want) first (inr is) =
-      let parts = and_parts (goes.near is.0.0) _ is.2 in
-      let some = any_has (λ (one : ℕ × LockMode). (one.0 == want.suite) && is_holder given events later agent t caller site ops actor goes is.0.1 (way_at (run given events) t one.0 one.1 is.0.0)) asked parts.1 in
-      let held = and_parts (some.0.0 == want.suite) (is_holder given events later agent t caller site ops actor goes is.0.1 (way_at (run given events) t some.0.0 some.0.1 is.0.0)) some.2 in
-      let same : some.0.0 ≡ want.suite = eqb-true some.0.0 want.suite held.0 in
-      inr (record {
-        server = is.0.0;
-        holder = is.0.1;
-        mode = some.0.1;
-        asks = subst (λ z. Contains asked (z, some.0.1)) same (contains_from asked some.0 some.1);
-        is_near = parts.0;
-        way = is_holder_so is.0.1 (way_at (run given events) t want.suite some.0.1 is.0.0)
-            (subst (λ z. is_holder given events later agent t caller site ops actor goes is.0.1 (way_at (run given events) t z some.0.1 is.0.0) ≡ true) same held.1);
-        is = is.1;
-      })
+      free rep h1 = search (open_not_met, and_parts, down_not_met, arith)
+  openly start may ended (Some want) first (inr is) = search (and_parts, any_has, is_holder, eqb-true, contains_from, is_holder_so, arith)
 
   pub among_by_votes : (job : EndedJob) → EndsThen given events later agent t caller site ops job → EndsByOpenVotes given events t caller site ops actor.agent.cache goes.near job
   among_by_votes job ends =
@@ -187,15 +144,11 @@ module _ (given : Opening) (events later : List Event) (agent t : ℕ) (caller :
   -- ---- what is decided
 
   decided_openly : (ended : Ending) (found : Option Want) → EndsOpenly given events t caller ops goes.near ended found → is_decided ended ≡ (none_in found && is_up (run given events) (home_of (fixed_of given).service t))
-  decided_openly ended None is = ap is_decided is ∙ decided_by [] (is_up (run given events) (home_of (fixed_of given).service t)) (answer_on (table_of given events) t caller ops)
-  decided_openly ended (Some want) (inl short) = ap is_decided short.is
-  decided_openly ended (Some want) (inr holder) = ap is_decided holder.is
+  decided_openly ended found h2 = search arith
 
   pub decided_so : (job : EndedJob) (by : EndsByOpenVotes given events t caller site ops actor.agent.cache goes.near job)
       → is_decided job.ending ≡ (all_met (open_demands (run given events) t (wants (fixed_of given) (run given events) (table_of given events) t caller ops by.start)) && is_up (run given events) (home_of (fixed_of given).service t))
-  decided_so job by =
-      decided_openly job.ending (first_wanting (run given events) t (all_wants by.start)) by.ends
-      ∙ ap (λ b. b && is_up (run given events) (home_of (fixed_of given).service t)) (sym (all_is (run given events) t (all_wants by.start)))
+  decided_so job by = search (decided_openly, all_is, arith)
 
   -- what is met by the votes that it finds is by the rows'
   pub rows_met : (start : ℕ → Prefix) → MayStartAll (fixed_of given) actor.agent.cache site start → all_met (open_demands (run given events) t (wants (fixed_of given) (run given events) (table_of given events) t caller ops start)) ≡ true
@@ -216,8 +169,7 @@ module _ (given : Opening) (events later : List Event) (agent t : ℕ) (caller :
     row_first one has = of (row_of (table_of given events).rows one.0) (unmoved events [] one (sym (append-nil events)) has)
       where
         of : (found : Option Row) → HasFirstVotes given.c0 found → votes_of_row (fixed_of given) found ≡ given.c0
-        of (Some row) first = first
-        of None first = refl
+        of found h1 = search arith
 
     pub led_first : (one : ℕ × LockMode) → Contains (asks_for given events t caller ops) one → (start : Prefix) → MayStart (fixed_of given) actor.agent.cache site one.0 start → (found_by one start).votes ≡ given.c0
     led_first one has start may =
@@ -230,10 +182,7 @@ module _ (given : Opening) (events later : List Event) (agent t : ℕ) (caller :
 
     rows_same : (start : ℕ → Prefix) → MayStartAll (fixed_of given) actor.agent.cache site start → all_wants start ≡ wants_of_rows (fixed_of given) (table_of given events) t caller ops
     unfolding the_want
-    rows_same start may =
-        ap (λ front. front ++ map of_votes (votes_set (table_of given events) t caller ops))
-        (map_members (lock_want start) (λ (one : ℕ × LockMode). record { suite = one.0; mode = one.1; votes = votes_of_row (fixed_of given) (row_of (table_of given events).rows one.0) }) asked
-        (λ one has. let there = contains_from asked one has in ap (λ votes. the_want (record { suite = one.0; mode = one.1; votes = votes })) (led_first one there (start one.0) (may one.0) ∙ sym (row_first one there))))
+    rows_same start may = search (the_want, of_votes, map_members, contains_from, led_first, row_first, arith)
 
     pub among_where_votes : (job : EndedJob) → EndsThen given events later agent t caller site ops job → is_decided job.ending ≡ has_votes_open given events t caller ops
     among_where_votes job ends =
@@ -245,5 +194,4 @@ among_locks_end_by_votes given events later agent t caller site ops actor goes j
     among_by_votes given events later agent t caller site ops actor (steady given events later agent t caller site ops actor goes) job ends
 
 pub among_locks_are_decided_where_votes_are : Always (AreDecidedWhereOpen GoesAmongLocks)
-among_locks_are_decided_where_votes_are given events later agent t caller site ops actor goes unmoved job ends =
-    among_where_votes given events later agent t caller site ops actor (steady given events later agent t caller site ops actor goes) unmoved job ends
+among_locks_are_decided_where_votes_are given events later agent t caller site ops actor goes unmoved job ends = search (among_where_votes, steady, arith)

@@ -1,9 +1,9 @@
 -- A transaction that goes among locks that stay has none once it has ended: each server that gave it one was told how it ended.
-use Rattle.law_run_recovers.proofs.Vocabulary.{◌≡◌, ◌⊎◌, inl, inr, ⊎_elim, ℕ, ◌+◌, ◌≤◌, ◌<◌, Bool, true, false, List, [], ◌∷◌, ◌++◌, append-nil, length, Option, Some, None, is_some, refl, sym, ap, subst, ◌∙◌, arith, ◌*◌, ◌==◌, ◌&&◌, ◌||◌}
-use Rattle.law_run_recovers.proofs.Vocabulary.{filter, slice_get, slice_set, list_any, false≢true, and_parts, and_from, eqb-true, eq-eqb, or_right, list_any-append, same_Some, slice_get_within, Identity, max_servers, Opening, Op, Lock}
-use Rattle.law_run_recovers.proofs.Vocabulary.{Request, Reply, Stamped, State, reply_of, served, answer_of, Has, contains_from, has_filter, filter_has, has_map, any_has, has_any, Transaction, Replied, numbers_from, is_finish, Agent}
-use Rattle.law_run_recovers.proofs.Vocabulary.{fixed_of, is_idle, next_of, begin, Exchange, exchange_of, exchanges, locks, says_held, was_held, exchanges-take, exchanges-forget, Served, Event, Begin, Step, Actor, World, server_at, step}
-use Rattle.law_run_recovers.proofs.Vocabulary.{run, so_many, puts_in, stage, wants_lock, was_locked, locked, sent_to, IsInOrder, up_in, is_up, locks_in, locks_at, world_after, GoesAmongLocks, Always, AmongLocksLeaveNoLockAt, or_left}
+use Rattle.law_run_recovers.proofs.Vocabulary.{◌≡◌, ◌⊎◌, inl, inr, ⊎_elim, ℕ, ◌+◌, ◌≤◌, ◌<◌, Bool, true, false, List, [], ◌∷◌, ◌++◌, append-nil, length, Option, Some, None, is_some, refl, sym, ap, subst, ◌∙◌, arith, ◌*◌, ◌==◌, ◌&&◌, ◌||◌, slice_get}
+use Rattle.law_run_recovers.proofs.Vocabulary.{slice_set, list_any, false≢true, and_parts, and_from, eqb-true, eq-eqb, or_right, list_any-append, same_Some, slice_get_within, Identity, max_servers, Opening, Op, Lock, Request, Reply, Stamped, State}
+use Rattle.law_run_recovers.proofs.Vocabulary.{reply_of, served, answer_of, Has, contains_from, has_filter, filter_has, has_map, any_has, has_any, Transaction, Replied, numbers_from, is_finish, Agent, fixed_of, is_idle, next_of, begin, Exchange}
+use Rattle.law_run_recovers.proofs.Vocabulary.{exchange_of, exchanges, locks, says_held, was_held, exchanges-take, exchanges-forget, Served, Event, Begin, Step, Actor, World, server_at, step, run, so_many, puts_in, stage, wants_lock, was_locked}
+use Rattle.law_run_recovers.proofs.Vocabulary.{locked, sent_to, IsInOrder, up_in, is_up, locks_in, locks_at, world_after, GoesAmongLocks, Always, AmongLocksLeaveNoLockAt, or_left}
 use Rattle.law_agents.proofs.Orders.{stages_rise, all_finish}
 use Rattle.law_run_recovers.specs.Sweeping.{has_any as any_of}
 use Rattle.rep_core.specs.declared.request.Request.TheVariants as request
@@ -28,56 +28,35 @@ use Rattle.law_run_recovers.proofs.Picks.{along}
 
 held-append : (past later : List Exchange) (number who : ℕ) → was_held (past ++ later) number who ≡ (was_held past number who || was_held later number who)
 held-append [] later number who = refl
-held-append (one ∷ past) later number who = of ((one.server == who) && locks number one.request && says_held one.response) _ _ _ (held-append past later number who)
-  where
-    of : (a b c d : Bool) → b ≡ (c || d) → (a || b) ≡ ((a || c) || d)
-    of true b c d is = refl
-    of false b c d is = is
+held-append (one ∷ past) later number who = search (held-append past later number who, arith)
 
 -- a server was told how it ended
 abbrev pub was_done : List Exchange → ℕ → Bool
 was_done past server = list_any (λ (one : Exchange). (one.server == server) && is_finish one.request) past
 
 not_finish : (asked : Request) (n : ℕ) → n < 3 → stage asked ≤ n → is_finish asked ≡ false
-not_finish (request.Finish t v) n few is = absurd (omega (arith, few, is))
-not_finish other n few is = refl
+not_finish asked n h2 h3 = search arith
 
 none_of : (a b : Bool) → ((a && false) || b) ≡ b
-none_of true b = refl
-none_of false b = refl
+none_of a b = search arith
 
 -- before its end is fixed none was
 pub none_done : (past : List Exchange) (n : ℕ) → n < 3 → ((one : Exchange) → Has past one → stage one.request ≤ n) → (server : ℕ) → was_done past server ≡ false
 none_done [] n few all server = refl
-none_done (one ∷ past) n few all server =
-    ap (λ b. ((one.server == server) && b) || was_done past server) (not_finish one.request n few (all one (inl refl)))
-    ∙ none_of (one.server == server) (was_done past server) ∙ none_done past n few (λ other has. all other (inr has)) server
+none_done (one ∷ past) n few all server = search (not_finish, none_of, none_done past n few, arith)
 
 pub done_of : (past : List Exchange) (server : ℕ) → Has (sent_to is_finish past) server → was_done past server ≡ true
-done_of past server has =
-    let one = has_map (λ (one : Exchange). one.server) (filter (λ (one : Exchange). is_finish one.request) past) server has in
-    let there = has_filter (λ (one : Exchange). is_finish one.request) past one.0 one.1 in
-    has_any (λ (one : Exchange). (one.server == server) && is_finish one.request) past one.0 there.0
-    (and_from (one.0.server == server) (is_finish one.0.request) (eq-eqb one.0.server server one.2) there.1)
+done_of past server has = search (has_map, has_filter, has_any, and_from, eq-eqb, arith)
 
 wants_it : (z : ℕ) (asked : Request) → locks z asked ≡ true → wants_lock asked ≡ true
-wants_it z (request.Poll t suite mode) is = refl
-wants_it z (request.Upgrade t suite) is = refl
-wants_it z other is = absurd (false≢true is)
+wants_it z asked h2 = search arith
 
 -- who gave a lock is one of those that hold one
 pub locked_of : (past : List Exchange) (z server : ℕ) → was_held past z server ≡ true → was_locked past server ≡ true
-locked_of past z server is =
-    let one = any_has (λ (one : Exchange). (one.server == server) && locks z one.request && says_held one.response) past is in
-    let parts = and_parts ((one.0.server == server) && locks z one.0.request) (says_held one.0.response) one.2 in
-    let more = and_parts (one.0.server == server) (locks z one.0.request) parts.0 in
-    has_any (λ (one : Exchange). (one.server == server) && wants_lock one.request && says_held one.response) past one.0 one.1
-    (and_from ((one.0.server == server) && wants_lock one.0.request) (says_held one.0.response) (and_from (one.0.server == server) (wants_lock one.0.request) more.0 (wants_it z one.0.request more.1)) parts.1)
+locked_of past z server is = search (any_has, and_parts, has_any, and_from, wants_it, arith)
 
 both_none : (a b : Bool) → a ≡ false → b ≡ false → (a || (b || false)) ≡ false
-both_none true b is none = is
-both_none false true is none = none
-both_none false false is none = refl
+both_none a b h2 h3 = search arith
 
 -- ---- all along
 
@@ -216,14 +195,10 @@ module _ (given : Opening) (events later : List Event) (agent t : ℕ) (caller :
             the what = what
 
             three : (a b c : Bool) → a ≡ true → b ≡ true → c ≡ true → ((a && b && c) || false) ≡ true
-            three true true true a b c = refl
-            three true true false a b c = absurd (false≢true c)
-            three true false c a b _ = absurd (false≢true b)
-            three false b c a _ _ = absurd (false≢true a)
+            three a b c h3 h4 h5 = search (false≢true, arith)
 
             none_and : (a : Bool) → (a && false) ≡ false
-            none_and true = refl
-            none_and false = refl
+            none_and a = search arith
 
     -- where it ends all that gave a lock were told
     pub none_then : is_idle took.new.agent.doing ≡ true → HasNone (so_far ++ Step agent ∷ [])
@@ -269,8 +244,7 @@ module _ (given : Opening) (events later : List Event) (agent t : ℕ) (caller :
           (told_on (fixed_of given) (world_at so_far) event server t z (next_on so_far event server z there))
 
       same_past : (told : List agents.Event) → (told ≡ on.0.told) ⊎ ((site' : ℕ) × (told ≡ on.0.told ++ agents.Forget site' ∷ [])) → past told ≡ past on.0.told
-      same_past told (inl same) = ap past {x = told} {y = on.0.told} same
-      same_past told (inr gone) = ap past {x = told} {y = on.0.told ++ agents.Forget gone.0 ∷ []} gone.1 ∙ exchanges-forget (fixed_of given) begun_agent on.0.told gone.0
+      same_past told h1 = search (exchanges-forget, arith)
 
       aside : Apart given agent (world_after given events agent caller site ops so_far) on.0.here on.0.there on.0.busy (step (fixed_of given) (world_after given events agent caller site ops so_far) event) × (event ≡ Step agent → ⊥)
           → Left (so_far ++ event ∷ [])

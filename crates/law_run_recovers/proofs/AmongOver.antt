@@ -1,8 +1,7 @@
 -- Who asks in the name of a transaction that goes steadily: its agent, which began no more since; and once it has ended nobody.
-use Rattle.law_run_recovers.proofs.Vocabulary.{◌≡◌, inr, ⊎_elim, ℕ, ◌+◌, ◌<◌, true, false, List, ◌∷◌, ◌++◌, Option, Some, None, refl, sym, ap, subst, ◌∙◌, arith, cons_option, false≢true, eq-eqb, none-some, same_Some, Identity, Opening, Op}
-use Rattle.law_run_recovers.proofs.Vocabulary.{Has, has_from, contains_from, Transaction, Agent, fixed_of, is_idle, next_in, begin, EndedJob, Served, Event, Begin, Step, Actor, World, becomes, opening, step, actor_at, dones, done_in}
-use Rattle.law_run_recovers.proofs.Vocabulary.{outcomes, run, dones-append, outcomes-append, ended, names, may_sweep, same_place, agents_ask_for_themselves, holds_of, has_append, append_has_right, agent_of, agent_at, begun_world}
-use Rattle.law_run_recovers.proofs.Vocabulary.{world_after, EndsThen}
+use Rattle.law_run_recovers.proofs.Vocabulary.{◌≡◌, ⊎_elim, ℕ, ◌+◌, ◌<◌, true, false, List, ◌∷◌, ◌++◌, Option, Some, None, refl, sym, ap, subst, ◌∙◌, arith, cons_option, false≢true, eq-eqb, none-some, same_Some, Identity, Opening, Op, Has, has_from}
+use Rattle.law_run_recovers.proofs.Vocabulary.{contains_from, Transaction, Agent, fixed_of, is_idle, next_in, begin, EndedJob, Served, Event, Begin, Step, Actor, World, becomes, step, actor_at, dones, outcomes, run, dones-append, outcomes-append}
+use Rattle.law_run_recovers.proofs.Vocabulary.{ended, names, may_sweep, same_place, agents_ask_for_themselves, holds_of, has_append, append_has_right, agent_of, agent_at, world_after, EndsThen}
 use Rattle.law_run_recovers.specs.Ends.{Ended}
 use Rattle.law_run_recovers.proofs.Steady.{GoesSteadily}
 use Rattle.law_run_recovers.proofs.Asker.{IsAsker, asker}
@@ -14,8 +13,7 @@ use Rattle.law_run_recovers.proofs.AmongEnds.{Over, small_at}
 use Rattle.law_run_recovers.proofs.AmongBegin.{begun}
 
 pub has_after : {X : Type 0} (found : Option X) (xs : List X) (x : X) → Has xs x → Has (cons_option found xs) x
-has_after None xs x has = has
-has_after (Some y) xs x has = inr has
+has_after found xs x h3 = search arith
 
 module _ (given : Opening) (events later : List Event) (agent t : ℕ) (caller : Identity) (site : ℕ) (ops : List Op) (actor : Actor) (goes : GoesSteadily given events later agent t caller site ops actor) where
   abbrev world_at : List Event → World
@@ -47,16 +45,10 @@ module _ (given : Opening) (events later : List Event) (agent t : ℕ) (caller :
   course_not_over so_far c over = false≢true (sym c.busy ∙ ap is_idle (over_idle so_far over c.here c.there c.count))
 
   parted : ended given (events ++ Begin agent (Transaction caller site ops) ∷ later) ≡ ended given events ++ outcomes (dones (fixed_of given) (run given events) (Begin agent (Transaction caller site ops) ∷ later))
-  parted =
-      ap outcomes (dones-append (fixed_of given) (opening given) events (Begin agent (Transaction caller site ops) ∷ later))
-      ∙ outcomes-append (done_in given events) (dones (fixed_of given) (run given events) (Begin agent (Transaction caller site ops) ∷ later))
+  parted = search (dones-append, outcomes-append, arith)
 
   pub ended_has : (job : EndedJob) → EndsThen given events later agent t caller site ops job → Has (ended given (events ++ Begin agent (Transaction caller site ops) ∷ later)) job
-  ended_has job ends =
-      subst (λ list. Has list job) (sym parted)
-      (append_has_right (ended given events) (outcomes (dones (fixed_of given) (run given events) (Begin agent (Transaction caller site ops) ∷ later))) job
-      (has_after (step (fixed_of given) (run given events) (Begin agent (Transaction caller site ops))).done.outcome (outcomes (dones (fixed_of given) (begun_world given events agent caller site ops) later)) job
-      (has_from (outcomes (dones (fixed_of given) (begun_world given events agent caller site ops) later)) job ends.there)))
+  ended_has job ends = search (parted, append_has_right, has_after, has_from, arith)
 
   -- its job is its agent's
   pub ended_own : (job : EndedJob) → EndsThen given events later agent t caller site ops job → job.agent ≡ agent
@@ -83,11 +75,7 @@ module _ (given : Opening) (events later : List Event) (agent t : ℕ) (caller :
       since : Has (outcomes (dones (fixed_of given) (run given events) (Begin agent (Transaction caller site ops) ∷ later))) over.0 → Ended given events later agent t caller site ops
       since has = record {
         job = over.0;
-        ends = record {
-          there = contains_from (outcomes (dones (fixed_of given) (begun_world given events agent caller site ops) later)) over.0
-              (subst (λ found. Has (cons_option found (outcomes (dones (fixed_of given) (begun_world given events agent caller site ops) later))) over.0) none has);
-          of_it = over.2;
-        };
+        ends = search (contains_from, none, arith);
       }
         where
           none : (step (fixed_of given) (run given events) (Begin agent (Transaction caller site ops))).done.outcome ≡ None

@@ -1,11 +1,11 @@
 -- A transaction that goes steadily ends as the votes say that are open: its own steps.
-use Rattle.law_run_recovers.proofs.Vocabulary.{◌≡◌, ◌⊎◌, inl, inr, ⊎_elim, ℕ, Bool, true, false, List, [], ◌∷◌, ◌++◌, Option, Some, None, is_some, refl, sym, ap, subst, ◌∙◌, arith, ◌+◌, ◌-◌, Contains, slice_get, nat_cmp, false≢true}
-use Rattle.law_run_recovers.proofs.Vocabulary.{and_parts, eq-eqb, none-some, same_Some, IsOrdered, Identity, Opening, Replica, LockMode, Op, Request, Reply, is_prepared, Verdict, reply_of, held, verdict_of, answer_of, served, State, Has}
-use Rattle.law_run_recovers.proofs.Vocabulary.{newest, Collector, Asked, Poll, Upgrade, counted, votes_or, request_for, mode_asked, mode_of, Cache, Transaction, Replied, row_of, IsSoAt, table_of, Suites, suite_of, known_of, has_vote}
-use Rattle.law_run_recovers.proofs.Vocabulary.{parts_at, Task, Phase, Gathering, Fetching, Preparing, Deciding, Finishing, TransactionRun, Running, After, GoesOn, Ends, home_of, asked_for, given_in, changes_of, decision_of, request_in}
-use Rattle.law_run_recovers.proofs.Vocabulary.{after_reply, Agent, Taken, fixed_of, is_idle, next_in, next_of, left, end_of, with_step, take_in, take, begin, after_all, exchanges, is_decide, asks_same, Keeps, nothing_held, plus_all}
-use Rattle.law_run_recovers.proofs.Vocabulary.{begin_keeps, after-append, Event, Begin, Step, EndedJob, Served, Actor, World, server_at, actor_at, one_more, outcome_of, step, run, decisions, ended, number_of, take_keeps, holds_of, agent_of}
-use Rattle.law_run_recovers.proofs.Vocabulary.{puts_in, is_resolve, never_resolves, is_up, shown_at, shown_in, asks_for, runs, world_after, Stamped, copy_of, shows_same, stands_on_locks, same_mode}
+use Rattle.law_run_recovers.proofs.Vocabulary.{◌≡◌, ◌⊎◌, inl, inr, ℕ, Bool, true, false, List, [], ◌∷◌, ◌++◌, Option, Some, None, is_some, refl, sym, ap, subst, ◌∙◌, arith, ◌+◌, ◌-◌, Contains, slice_get, nat_cmp, false≢true, and_parts, eq-eqb}
+use Rattle.law_run_recovers.proofs.Vocabulary.{none-some, same_Some, IsOrdered, Identity, Opening, Replica, LockMode, Op, Request, Reply, is_prepared, Verdict, reply_of, held, verdict_of, answer_of, served, State, Has, newest, Collector, Asked, Poll}
+use Rattle.law_run_recovers.proofs.Vocabulary.{counted, votes_or, request_for, mode_asked, mode_of, Cache, Transaction, Replied, row_of, IsSoAt, table_of, Suites, suite_of, known_of, has_vote, parts_at, Task, Phase, Gathering, Fetching, Preparing}
+use Rattle.law_run_recovers.proofs.Vocabulary.{Deciding, Finishing, TransactionRun, Running, After, GoesOn, Ends, home_of, asked_for, given_in, changes_of, decision_of, request_in, after_reply, Agent, Taken, fixed_of, is_idle, next_in, next_of, left}
+use Rattle.law_run_recovers.proofs.Vocabulary.{end_of, with_step, take, begin, after_all, exchanges, is_decide, asks_same, Keeps, nothing_held, plus_all, begin_keeps, after-append, Event, Begin, Step, EndedJob, Served, Actor, World, server_at}
+use Rattle.law_run_recovers.proofs.Vocabulary.{actor_at, one_more, outcome_of, step, run, decisions, ended, number_of, holds_of, agent_of, puts_in, is_resolve, never_resolves, is_up, shown_at, shown_in, asks_for, runs, world_after, Stamped, copy_of}
+use Rattle.law_run_recovers.proofs.Vocabulary.{shows_same, stands_on_locks, same_mode}
 use Rattle.rep_core.specs.Service.{after}
 use Rattle.txn_core.specs.Transactions.{Step as CourseStep}
 use Rattle.rep_core.specs.declared.request.Request.TheVariants as request
@@ -38,8 +38,7 @@ suite_in (request.Poll u suite mode) = suite
 suite_in other = 0
 
 suite_same : (t z : ℕ) (question : Asked) (u suite : ℕ) (mode : LockMode) → request_for t z question ≡ request.Poll u suite mode → z ≡ suite
-suite_same t z (Poll other) u suite mode is = ap suite_in is
-suite_same t z Upgrade u suite mode is = cc
+suite_same t z question u suite mode h6 = search arith
 
 module _ (given : Opening) (events later : List Event) (agent t : ℕ) (caller : Identity) (site : ℕ) (ops : List Op) (actor : Actor) (goes : GoesSteadily given events later agent t caller site ops actor) where
   abbrev its_task : Task
@@ -104,8 +103,7 @@ module _ (given : Opening) (events later : List Event) (agent t : ℕ) (caller :
         goes.are_near.set (z, at.votes) took.asked.0 (set_there given events later agent t caller site ops actor goes (z, at.votes) (subst (λ sets. Has sets (z, at.votes)) (sym at.sets.sets) (onto_left at.done _ (z, at.votes) (inl refl))))
         (subst (λ votes. has_vote votes took.asked.0 ≡ true) count' vote)
     near_for now suites (Preparing [] outcome) at work asks' open' = absurd (none-some (took.asked.0, took.asked.1) asks')
-    near_for now suites (Preparing (server ∷ left) outcome) at work asks' open' =
-        near_locked (work tt) (ap stands_on_locks (sym (asks_same server took.asked.0 (request.Prepare its_task.t (parts_at suites (changes_of outcome) server)) took.asked.1 asks')))
+    near_for now suites (Preparing (server ∷ left) outcome) at work asks' open' = search (near_locked, asks_same, arith)
     near_for now suites (Deciding outcome) at work asks' open' =
         let home : took.asked.0 ≡ home_of (fixed_of given).service t =
         sym (ap (λ (asked : ℕ × Request). asked.0) (same_Some (home_of (fixed_of given).service its_task.t, request.Decide its_task.t (decision_of its_task outcome)) (took.asked.0, took.asked.1) asks'))
@@ -186,19 +184,9 @@ module _ (given : Opening) (events later : List Event) (agent t : ℕ) (caller :
         open_so z took.asked.1 asks.question (widen_asks given events later agent t caller site ops actor goes took.asked.0 took.asked.1 c.here.agent.cache r.txn_run.suites z left granted at asks) asks.asked_is copy
         (subst (Answers (fixed_of given) (run given events) (sight given events later agent t caller site ops actor goes) z asks.question took.asked.0) is (right asks.question asks.asked_is)) u suite mode poll
     polls_answered (Preparing left outcome) at asks' right u suite mode poll copy is = absurd (false≢true (ap is_prepared (sym is) ∙ right))
-    polls_answered (Deciding outcome) at asks' right u suite mode poll copy is =
-        absurd (⊎_elim (λ up. not_verdict (verdict_of (decision_of its_task outcome)) (sym is ∙ up.1)) (λ down. not_down (sym is ∙ down.1)) right)
-      where
-        not_verdict : (v : Verdict) → held copy ≡ reply.Verdict v → ⊥
-        not_verdict v is = cc
-
-        not_down : held copy ≡ reply.Down → ⊥
-        not_down is = cc
+    polls_answered (Deciding outcome) at asks' right u suite mode poll copy is = search arith
     polls_answered (Finishing [] v ended) at asks' right u suite mode poll copy is = absurd (none-some (took.asked.0, took.asked.1) asks')
-    polls_answered (Finishing (first ∷ left) v ended) at asks' right u suite mode poll copy is = absurd (not_poll (asks_same first took.asked.0 (request.Finish its_task.t v) took.asked.1 asks' ∙ poll))
-      where
-        not_poll : request.Finish its_task.t v ≡ request.Poll u suite mode → ⊥
-        not_poll is = cc
+    polls_answered (Finishing (first ∷ left) v ended) at asks' right u suite mode poll copy is = search (asks_same, arith)
 
     -- it was told so
     module _ (server : ℕ) (told : Told (fixed_of given) (world_after given events agent caller site ops so_far) (Step agent) t server) where
@@ -221,10 +209,7 @@ module _ (given : Opening) (events later : List Event) (agent t : ℕ) (caller :
       told_shows = polls_answered r.txn_run.phase r.at.1 request_is right_here t told.told.suite told.told.mode asked_is told.told.copy said_is
 
     new_answered : NewOpen given events later agent t caller site ops actor goes so_far (Step agent)
-    new_answered server z told of_it =
-        subst (λ z. opens given events later agent t caller site ops actor goes z (first_asked given events later agent t caller site ops actor goes z) server ≡ true) of_it
-        (subst (λ server. opens given events later agent t caller site ops actor goes told.told.suite (first_asked given events later agent t caller site ops actor goes told.told.suite) server ≡ true) (at_it server told)
-        (told_shows server told).0)
+    new_answered server z told of_it = search (at_it server told, told_shows server told, opens, first_asked, arith)
 
     new_shown : NewShown given events later agent t caller site ops actor goes so_far (Step agent)
     new_shown server z told of_it =
@@ -242,11 +227,7 @@ module _ (given : Opening) (events later : List Event) (agent t : ℕ) (caller :
 
         polled : ((copy_of (served took.st (record { stamp = c.here.stamp; value = took.asked.1 })).store told.told.suite).prefix ≡ told.told.copy.prefix)
             × ((copy_of (served took.st (record { stamp = c.here.stamp; value = took.asked.1 })).store told.told.suite).dver ≡ told.told.copy.dver)
-        polled =
-            let poll = request.Poll t told.told.suite told.told.mode in
-            let store = ap (λ asked. (after took.st asked).store) (asked_is server told) ∙ poll_leaves took.st t told.told.suite told.told.mode in
-            let shows = poll_shows took.st t told.told.suite told.told.mode told.told.copy (ap (reply_of took.st) (sym (asked_is server told)) ∙ said_is server told) in
-            (ap (λ store. (copy_of store told.told.suite).prefix) store ∙ shows.0, ap (λ store. (copy_of store told.told.suite).dver) store ∙ shows.1)
+        polled = search (asked_is, poll_leaves, poll_shows, said_is, arith)
 
         of : (old : Option State) → server_at (run given events) took.asked.0 ≡ old
             → shows_same (Some (served took.st (record { stamp = c.here.stamp; value = took.asked.1 }))) (server_at (run given events) took.asked.0) told.told.suite
@@ -268,9 +249,7 @@ module _ (given : Opening) (events later : List Event) (agent t : ℕ) (caller :
     step_of task = after_reply (fixed_of given) task c.here.agent.cache r.txn_run.suites r.txn_run.phase took.asked.0 took.asked.1 said
 
     taken : take (fixed_of given) c.here.agent (Replied said) ≡ with_step c.here.agent (step_of r.txn_run.task)
-    taken =
-        ap (λ doing. take_in (fixed_of given) c.here.agent (Replied said) doing (next_of (fixed_of given) c.here.agent)) r.running
-        ∙ ap (take_in (fixed_of given) c.here.agent (Replied said) (Some (Running r.txn_run))) took.next
+    taken = search arith
 
     pub here_is : took.new.agent ≡ (with_step c.here.agent (step_of r.txn_run.task)).agent
     here_is = took.took ∙ ap (λ (taken : Taken). taken.agent) taken
@@ -279,9 +258,7 @@ module _ (given : Opening) (events later : List Event) (agent t : ℕ) (caller :
     there_then = ap (λ w. actor_at w agent) (next_is given events later agent t caller site ops actor goes so_far (Step agent)) ∙ took.now
 
     count_then : took.new.agent.count ≡ actor.agent.count + 1
-    count_then =
-        ap (λ (a : Agent). a.count) took.took
-        ∙ (take_keeps (fixed_of given) c.here.agent (Replied said) c.here.agent.doing (next_of (fixed_of given) c.here.agent)).1 ∙ c.count
+    count_then = search arith
 
     abbrev told_then : List agents.Event
     told_then = c.told ++ agents.Take (Replied (reply_of took.st took.asked.1)) ∷ []
@@ -347,10 +324,7 @@ module _ (given : Opening) (events later : List Event) (agent t : ℕ) (caller :
     own_on = of (step_of r.txn_run.task).after refl
       where
         number_ended : (one : EndedJob) → one.agent ≡ agent → one.count ≡ c.here.agent.count - 1 → number_of one ≡ t
-        number_ended one at count =
-            let counts = c.count in
-            let first = (begun given events later agent t caller site ops actor goes).0 in
-            omega (arith, at, count, counts, first)
+        number_ended one at count = search (begun, arith)
 
         of : (after : After TransactionRun) → (step_of r.txn_run.task).after ≡ after → OwnOn
         of (GoesOn more) is = inl (

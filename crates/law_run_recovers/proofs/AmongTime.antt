@@ -1,10 +1,10 @@
 -- A transaction that goes steadily ends within a number of its own steps that its table tells.
-use Rattle.law_run_recovers.proofs.Vocabulary.{◌≡◌, ◌⊎◌, inl, inr, ⊎_elim, ℕ, ◌+◌, ◌<◌, ◌≤◌, Bool, true, false, cond, List, [], ◌∷◌, ◌++◌, append_assoc, length, Some, is_some, refl, sym, ap, subst, ◌∙◌, arith, Option, suc, zero, None, ◌==◌}
-use Rattle.law_run_recovers.proofs.Vocabulary.{◌&&◌, ◌||◌, cons_option, list_all, nat_tests, list_all-append, slice_get_within, none-some, slice_get_cases, Identity, Opening, Op, reply_of, Has, has_any, contains_from, any_has, has_filter}
-use Rattle.law_run_recovers.proofs.Vocabulary.{has_from, Transaction, Replied, Lacked, numbers_from, request_in, Agent, fixed_of, next_in, next_of, begin, after_all, is_idle, Exchange, exchange_of, exchanges, among, asks_only, names_of}
-use Rattle.law_run_recovers.proofs.Vocabulary.{names_only, says_held, exchanges-take, exchanges-forget, Event, Begin, Step, EndedJob, Actor, World, step, server_at, dones, outcomes, run, table_of, number_of, so_many, its_step, own_steps}
-use Rattle.law_run_recovers.proofs.Vocabulary.{few_steps, begun_world, world_after, hinders_itself, Ending, Finishing, Request, Response, State, Verdict, VotesAreValid, and_parts, eqb-true, false≢true, append_has_right, asks_same}
-use Rattle.law_run_recovers.proofs.Vocabulary.{cache_valid, copy_valid, is_finish, jobs_end, locked, sent_to, wants_lock, was_locked, max_servers, Always, EndInTime, GoesAmongLocks, GoesUnmet, eq-eqb}
+use Rattle.law_run_recovers.proofs.Vocabulary.{◌≡◌, ◌⊎◌, inl, inr, ⊎_elim, ℕ, ◌+◌, ◌<◌, ◌≤◌, Bool, true, false, cond, List, [], ◌∷◌, ◌++◌, append_assoc, length, Some, is_some, refl, sym, ap, subst, ◌∙◌, arith, Option, suc, zero, None, ◌==◌, ◌&&◌}
+use Rattle.law_run_recovers.proofs.Vocabulary.{cons_option, list_all, list_all-append, slice_get_within, none-some, slice_get_cases, Identity, Opening, Op, reply_of, Has, has_any, contains_from, any_has, has_filter, has_from, Transaction, Replied}
+use Rattle.law_run_recovers.proofs.Vocabulary.{Lacked, numbers_from, request_in, Agent, fixed_of, next_in, next_of, begin, after_all, is_idle, Exchange, exchange_of, exchanges, among, asks_only, names_of, names_only, says_held, exchanges-take}
+use Rattle.law_run_recovers.proofs.Vocabulary.{exchanges-forget, Event, Begin, Step, EndedJob, Actor, World, step, server_at, dones, outcomes, run, table_of, number_of, so_many, its_step, own_steps, few_steps, begun_world, world_after}
+use Rattle.law_run_recovers.proofs.Vocabulary.{hinders_itself, Ending, Finishing, Request, Response, State, Verdict, VotesAreValid, and_parts, eqb-true, false≢true, append_has_right, asks_same, cache_valid, copy_valid, is_finish, jobs_end, locked}
+use Rattle.law_run_recovers.proofs.Vocabulary.{sent_to, wants_lock, was_locked, max_servers, Always, EndInTime, GoesAmongLocks, GoesUnmet, eq-eqb}
 use Rattle.law_agents.proofs.Orders.{finishes_in_order}
 use Rattle.law_run_recovers.specs.Ends.{Ended}
 use Rattle.txn_core.specs.Agents as agents
@@ -38,31 +38,15 @@ one_longer [] x = refl
 one_longer (y ∷ xs) x = let rest = one_longer xs x in omega (arith, rest)
 
 and_one : (a b : Bool) → a ≡ true → b ≡ true → (a && (b && true)) ≡ true
-and_one true true a b = refl
-and_one true false a b = absurd (false≢true b)
-and_one false b a _ = absurd (false≢true a)
+and_one a b h2 h3 = search arith
 
 step_of : (agent : ℕ) (event : Event) → its_step agent event ≡ true → event ≡ Step agent
-step_of agent (Step other) is = ap Step (same_at other agent is)
-  where
-    same_at : (a b : ℕ) → (a == b) ≡ true → a ≡ b
-    same_at a b is = grind (arith, nat_tests)
-step_of agent another is = absurd (false≢true is)
+step_of agent event h2 = search arith
 
 -- who is among so many numbers is below their end
 below : (count start n : ℕ) → among (numbers_from start count) n ≡ true → n < start + count
 below zero start n is = absurd (false≢true is)
-below (suc count) start n is = of (start == n) refl is (below count (start + 1) n)
-  where
-    here : start ≡ n → n < start + suc count
-    here same = omega (arith, same)
-
-    later : n < start + 1 + count → n < start + suc count
-    later less = omega (arith, less)
-
-    of : (b : Bool) → (start == n) ≡ b → (b || among (numbers_from (start + 1) count) n) ≡ true → (among (numbers_from (start + 1) count) n ≡ true → n < start + 1 + count) → n < start + suc count
-    of true same is go = here (eqb-true start n same)
-    of false other is go = later (go is)
+below (suc count) start n is = search (eqb-true, below count (start + 1) n, arith)
 
 module _ (given : Opening) (events later : List Event) (agent t : ℕ) (caller : Identity) (site : ℕ) (ops : List Op) (actor : Actor) (goes : GoesSteadily given events later agent t caller site ops actor) where
   abbrev begun : Agent
@@ -135,8 +119,7 @@ module _ (given : Opening) (events later : List Event) (agent t : ℕ) (caller :
         where
           of : (servers' : List ℕ) → request_in (fixed_of given) (its given events later agent t caller site ops actor goes) r.txn_run.suites (Finishing servers' v ending) ≡ Some (asked.0, asked.1)
               → asked.1 ≡ request.Finish (its given events later agent t caller site ops actor goes).t v
-          of [] is = absurd (none-some (asked.0, asked.1) is)
-          of (first ∷ left) is = sym (asks_same first asked.0 (request.Finish (its given events later agent t caller site ops actor goes).t v) asked.1 is)
+          of servers' h1 = search (none-some, asks_same, its, arith)
 
       module _ (r : RunsIt given events later agent t caller site ops actor goes so_far c) (known : among servers asked.0 ≡ true) (heard : Response) (shown : Shows (agents.Take heard)) where
         past_is : past (c.told ++ agents.Take heard ∷ []) ≡ past c.told ++ record { server = asked.0; request = asked.1; response = heard } ∷ []
@@ -150,17 +133,7 @@ module _ (given : Opening) (events later : List Event) (agent t : ℕ) (caller :
 
         -- one more
         counted_on : (k : ℕ) → Counted c.told k → Counted (c.told ++ agents.Take heard ∷ []) (k + 1)
-        counted_on k counted =
-            let so = counted.counts in
-            let other : Exchange = record { server = asked.0; request = asked.1; response = heard } in
-            record {
-              counts = record {
-                asks = ap (asks_only servers) past_is ∙ list_all-append (λ (one : Exchange). among servers one.server) (past c.told) (other ∷ []) ∙ and_one (asks_only servers (past c.told)) (among servers asked.0) so.asks known;
-                names = ap (names_only suites) past_is ∙ list_all-append (λ (one : Exchange). names_of suites one.request) (past c.told) (other ∷ []) ∙ and_one (names_only suites (past c.told)) (names_of suites asked.1) so.names named;
-                many = ap length past_is ∙ one_longer (past c.told) other ∙ ap (λ n. n + 1) so.many;
-              };
-              shows = show_both c.told (agents.Take heard ∷ []) counted.shows (shown, tt);
-            }
+        counted_on k counted = search (past_is, list_all-append, and_one, named, one_longer, show_both, arith)
 
     -- it asks something, and where its end is fixed a server that there is
     module _ (k : ℕ) (counted : Counted c.told k) where
@@ -199,10 +172,7 @@ module _ (given : Opening) (events later : List Event) (agent t : ℕ) (caller :
   -- ---- all along
 
   lasts : (rest so_far : List Event) → later ≡ so_far ++ rest → (c : Course given events later agent t caller site ops actor goes so_far) (k : ℕ) → Counted c.told k → OneEnds so_far rest ⊎ Runs (k + own_steps agent rest)
-  lasts [] so_far split c k counted = inr (record { told = c.told; many = k; least = none k; counted = counted })
-    where
-      none : (k : ℕ) → k + 0 ≤ k
-      none k = omega arith
+  lasts [] so_far split c k counted = search arith
   lasts (event ∷ rest) so_far split c k counted =
       of (hinders_itself given agent (world_after given events agent caller site ops so_far) event) refl (λ c k counted. lasts rest (so_far ++ event ∷ []) (split ∙ sym (append_assoc so_far (event ∷ []) rest)) c k counted)
     where
@@ -330,9 +300,7 @@ module _ (given : Opening) (events later : List Event) (agent t : ℕ) (caller :
           (few_enough given events actor.agent t caller site ops (number given events later agent t caller site ops actor goes) (idle_before given events later agent t caller site ops actor goes) runs.many runs.told runs.counted.counts))
 
 pub among_locks_end_in_time : Always (EndInTime GoesAmongLocks)
-among_locks_end_in_time given events later agent t caller site ops actor goes more =
-    in_time given events later agent t caller site ops actor (steady given events later agent t caller site ops actor goes) more
+among_locks_end_in_time given events later agent t caller site ops actor goes more = search (in_time, steady, arith)
 
 pub unmet_end_in_time : Always (EndInTime GoesUnmet)
-unmet_end_in_time given events later agent t caller site ops actor goes more =
-    among_locks_end_in_time given events later agent t caller site ops actor (unmet_is_among_locks given events later agent t caller site ops actor goes) more
+unmet_end_in_time given events later agent t caller site ops actor goes more = search (among_locks_end_in_time, unmet_is_among_locks, arith)

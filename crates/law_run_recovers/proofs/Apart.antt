@@ -1,8 +1,8 @@
 -- What an event makes of an agent at work whose step it is not: it does what it did, and no job of it ended.
-use Rattle.law_run_recovers.proofs.Vocabulary.{◌≡◌, ◌⊎◌, inl, inr, ⊎_elim, ℕ, ◌+◌, Bool, true, false, cond, [], ◌∷◌, Option, Some, None, is_some, refl, sym, ap, ◌∙◌, ◌-◌, ◌==◌, ◌&&◌, not, nat_lt, slice_get, find, option_map, false≢true}
-use Rattle.law_run_recovers.proofs.Vocabulary.{eqb-true, eq-eqb, none-some, same_Some, Opening, Prefix, Request, State, Entry, Cache, is_of, forgotten, hint, Ending, Job, Replied, Lacked, Fixed, Agent, Taken, fixed_of, is_idle, has_sense}
-use Rattle.law_run_recovers.proofs.Vocabulary.{max_jobs, next_of, take, begin, started, forget, Event, Begin, Step, Crash, Return, Forget, Lack, EndedJob, Served, Actor, World, Stepped, server_at, actor_at, with_actor, quiet, serve}
-use Rattle.law_run_recovers.proofs.Vocabulary.{after_serving, outcome_of, moved, took, becomes, answered, asks_at, asks, steps_once, lacks_for, lacks, operated, operates, step, same_or, puts_in, hinders_itself}
+use Rattle.law_run_recovers.proofs.Vocabulary.{◌≡◌, ◌⊎◌, inl, inr, ⊎_elim, ℕ, ◌+◌, Bool, true, false, cond, [], ◌∷◌, Option, Some, None, is_some, refl, sym, ap, ◌∙◌, ◌-◌, ◌==◌, ◌&&◌, not, nat_lt, slice_get, find, false≢true, arith, eqb-true, eq-eqb}
+use Rattle.law_run_recovers.proofs.Vocabulary.{none-some, same_Some, Opening, Prefix, Request, State, Entry, Cache, is_of, forgotten, hint, Ending, Job, Replied, Lacked, Fixed, Agent, Taken, fixed_of, is_idle, has_sense, max_jobs, next_of, take}
+use Rattle.law_run_recovers.proofs.Vocabulary.{begin, started, forget, Event, Begin, Step, Crash, Return, Forget, Lack, EndedJob, Served, Actor, World, Stepped, server_at, actor_at, with_actor, serve, after_serving, outcome_of, moved, took, becomes}
+use Rattle.law_run_recovers.proofs.Vocabulary.{answered, asks_at, asks, steps_once, lacks_for, lacks, operates, step, same_or, puts_in, hinders_itself}
 use Rattle.rep_core.specs.declared.stamped.Lack.{Lack as Why}
 use Rattle.rep_core.specs.declared.request.Request.TheVariants as request
 use Rattle.rep_core.specs.declared.stamped.Lack.TheVariants as lack
@@ -23,29 +23,22 @@ left_was s z site (one ∷ cache) entry is = of (one.site == site) refl (is_of s
         by false at rest = ap (λ b. cond (b && (one.suite == z)) (Some one) (find (is_of s z) (forgotten site cache))) (other (one.site == s) refl) ∙ rest
           where
             other : (c : Bool) → (one.site == s) ≡ c → (one.site == s) ≡ false
-            other false is = is
-            other true is = absurd (false≢true (sym at ∙ ap (λ n. n == site) (eqb-true one.site s is) ∙ same))
+            other c h1 = search (false≢true, eqb-true, same, arith)
 
     of : (gone : Bool) → (one.site == site) ≡ gone → (here : Bool) → is_of s z one ≡ here → find (is_of s z) (cond (not gone) (one ∷ forgotten site cache) (forgotten site cache)) ≡ Some entry
         → (find (is_of s z) (forgotten site cache) ≡ Some entry → find (is_of s z) cache ≡ Some entry) → cond (is_of s z one) (Some one) (find (is_of s z) cache) ≡ Some entry
     of false at here test is go = by here test
       where
         by : (b : Bool) → is_of s z one ≡ b → cond (is_of s z one) (Some one) (find (is_of s z) cache) ≡ Some entry
-        by true passes = ap (λ b. cond b (Some one) (find (is_of s z) cache)) passes ∙ sym (ap (λ b. cond b (Some one) (find (is_of s z) (forgotten site cache))) passes) ∙ is
-        by false fails = ap (λ b. cond b (Some one) (find (is_of s z) cache)) fails ∙ go (sym (ap (λ b. cond b (Some one) (find (is_of s z) (forgotten site cache))) fails) ∙ is)
+        by b h1 = search arith
     of true at false test is go = ap (λ b. cond b (Some one) (find (is_of s z) cache)) test ∙ go is
     of true at true test is go = absurd (none-some entry (sym (none_left cache s site (same (one.site == s) (one.suite == z) refl test)) ∙ is))
       where
         same : (b c : Bool) → (one.site == s) ≡ b → (b && c) ≡ true → (s == site) ≡ true
-        same true c is test = ap (λ n. n == site) (sym (eqb-true one.site s is)) ∙ at
-        same false c is test = absurd (false≢true test)
+        same b c h2 h3 = search (eqb-true, false≢true, arith)
 
 pub hint_forgotten : (site s z : ℕ) (cache : Cache) (prefix : Prefix) → hint (forgotten site cache) s z ≡ Some prefix → hint cache s z ≡ Some prefix
-hint_forgotten site s z cache prefix = of (find (is_of s z) (forgotten site cache)) refl
-  where
-    of : (found : Option Entry) → find (is_of s z) (forgotten site cache) ≡ found → option_map (λ (entry : Entry). entry.prefix) found ≡ Some prefix → hint cache s z ≡ Some prefix
-    of None is some = absurd (none-some prefix some)
-    of (Some entry) is some = ap (option_map (λ (entry : Entry). entry.prefix)) (left_was s z site cache entry is) ∙ some
+hint_forgotten site s z cache prefix = search (none-some, left_was, arith)
 
 -- ---- one event
 
@@ -91,8 +84,7 @@ module _ (given : Opening) (agent : ℕ) (w : World) (here : Actor) (there : act
       (ended taken.ending)
     where
       ended : (ending : Option Ending) (one : EndedJob) → outcome_of i actor ending ≡ Some one → one.agent ≡ agent → ⊥
-      ended None one some own = none-some one some
-      ended (Some ending) one some own = apart (sym own ∙ ap (λ (job : EndedJob). job.agent) (sym (same_Some _ one some)))
+      ended ending one h2 h3 = search (none-some, same_Some, arith)
 
   steps_apart : (i : ℕ) (found : Option Actor) → actor_at w i ≡ found → (agent ≡ i → ⊥) → Apart (steps_once fixed w i found)
   steps_apart i None at apart = nothing (steps_once fixed w i None) there refl
@@ -103,28 +95,16 @@ module _ (given : Opening) (agent : ℕ) (w : World) (here : Actor) (there : act
       of asked st None = took_apart w refl i actor at apart actor.stamp (take fixed actor.agent (Lacked lack.Full)) None
 
       there_is : (asked : ℕ × Request) (found : Option State) → Apart (asks_at fixed w i actor asked found)
-      there_is asked None = nothing (quiet w) there refl
-      there_is asked (Some st) = of asked st (serve asked.0 st (record { stamp = actor.stamp; value = asked.1 }))
+      there_is asked found = search (nothing, of, arith)
 
       by : (asked : Option (ℕ × Request)) → Apart (asks fixed w i actor asked)
-      by None = nothing (quiet w) there refl
-      by (Some asked) = there_is asked (server_at w asked.0)
+      by asked = search (nothing, there_is, arith)
 
   lacks_apart : (i : ℕ) (why : Why) (found : Option Actor) → actor_at w i ≡ found → (agent ≡ i → ⊥) → Apart (lacks fixed w i (Lacked why) found)
-  lacks_apart i why None at apart = nothing (lacks fixed w i (Lacked why) None) there refl
-  lacks_apart i why (Some actor) at apart = by (next_of fixed actor.agent)
-    where
-      by : (asked : Option (ℕ × Request)) → Apart (lacks_for fixed w i actor (Lacked why) asked)
-      by None = nothing (quiet w) there refl
-      by (Some asked) = took_apart w refl i actor at apart actor.stamp (take fixed actor.agent (Lacked why)) None
+  lacks_apart i why found h3 h4 = search (nothing, took_apart, arith)
 
   operates_apart : (server : ℕ) (asked : Request) (found : Option State) → Apart (operates w server asked found)
-  operates_apart server asked None = nothing (quiet w) there refl
-  operates_apart server asked (Some st) = by (serve server st (record { stamp = 0; value = asked }))
-    where
-      by : (what : Option Served) → Apart (operated w st what)
-      by None = nothing (quiet w) there refl
-      by (Some what) = nothing (operated w st (Some what)) there refl
+  operates_apart server asked found = search (nothing, arith)
 
   begin_none : (job : Job) → begin fixed here.agent job ≡ here.agent
   begin_none job = ap (λ idle. cond (idle && has_sense (fixed_of given) job && nat_lt here.agent.count max_jobs) (record (started (fixed_of given) here.agent job) { count = here.agent.count + 1 }) here.agent) busy
@@ -135,29 +115,7 @@ module _ (given : Opening) (agent : ℕ) (w : World) (here : Actor) (there : act
   -- an event that does not hinder it is its own step, which is served, or is apart from it
   pub event_apart : (event : Event) → hinders_itself given agent w event ≡ false
       → (Apart (step fixed w event) × (event ≡ Step agent → ⊥)) ⊎ ((event ≡ Step agent) × (is_some (step fixed w event).done.served ≡ true))
-  event_apart (Begin i job) calm = inl (becomes_apart (λ a. begin (fixed_of given) a job) (inl (begin_none job)) i (actor_at w i) refl, λ is. cc)
-  event_apart (Step i) calm = of (i == agent) refl calm
-    where
-      served_so : (b : Bool) → not b ≡ false → b ≡ true
-      served_so true is = refl
-      served_so false is = absurd (false≢true (sym is))
-
-      who : Event → ℕ
-      who (Step j) = j
-      who (Begin j job) = j
-      who (Crash server) = server
-      who (Return server) = server
-      who (Forget j site) = j
-      who (Lack j why) = j
-
-      of : (b : Bool) → (i == agent) ≡ b → (b && not (is_some (step (fixed_of given) w (Step i)).done.served)) ≡ false
-          → (Apart (step (fixed_of given) w (Step i)) × (Step i ≡ Step agent → ⊥)) ⊎ ((Step i ≡ Step agent) × (is_some (step (fixed_of given) w (Step i)).done.served ≡ true))
-      of true same calm = inr (ap Step (eqb-true i agent same), served_so (is_some (step (fixed_of given) w (Step i)).done.served) calm)
-      of false differs calm = inl (steps_apart i (actor_at w i) refl (apart_from i differs), λ is. false≢true (sym differs ∙ eq-eqb i agent (ap who is)))
-  event_apart (Crash server) calm = inl (operates_apart server request.Crash (server_at w server), λ is. cc)
-  event_apart (Return server) calm = inl (operates_apart server request.Return (server_at w server), λ is. cc)
-  event_apart (Forget i site) calm = inl (becomes_apart (λ a. forget a site) (inr (site, refl)) i (actor_at w i) refl, λ is. cc)
-  event_apart (Lack i why) calm = inl (lacks_apart i why (actor_at w i) refl (apart_from i calm), λ is. cc)
+  event_apart event h1 = grind (becomes_apart, begin_none, false≢true, eqb-true, steps_apart, apart_from, eq-eqb, operates_apart, lacks_apart, arith)
 
 -- ---- whose job ends
 
@@ -171,10 +129,7 @@ pub record EndsNow (fixed : Fixed) (w : World) (one : EndedJob) : Type 0 where
 
 module _ (fixed : Fixed) (w : World) (one : EndedJob) where
   ends_by : (i : ℕ) (actor : Actor) → actor_at w i ≡ Some actor → (asked : ℕ × Request) → next_of fixed actor.agent ≡ Some asked → (ending : Option Ending) → outcome_of i actor ending ≡ Some one → EndsNow fixed w one
-  ends_by i actor at asked next None is = absurd (none-some one is)
-  ends_by i actor at asked next (Some ending) is =
-      let same = same_Some _ one is in
-      record { actor = actor; there = ap (actor_at w) (sym (ap (λ (job : EndedJob). job.agent) same)) ∙ at; asked = asked; next = next; count = sym (ap (λ (job : EndedJob). job.count) same) }
+  ends_by i actor h2 asked h4 ending h6 = search arith
 
   ends_step : (i : ℕ) (found : Option Actor) → actor_at w i ≡ found → (steps_once fixed w i found).done.outcome ≡ Some one → EndsNow fixed w one
   ends_step i None at is = absurd (none-some one is)
@@ -201,16 +156,10 @@ module _ (fixed : Fixed) (w : World) (one : EndedJob) where
       by (Some asked) next is = ends_by i actor at asked next (take fixed actor.agent (Lacked why)).ending is
 
   none_becomes : (i : ℕ) (change : Agent → Agent) (found : Option Actor) → (becomes w i change found).done.outcome ≡ Some one → EndsNow fixed w one
-  none_becomes i change None is = absurd (none-some one is)
-  none_becomes i change (Some actor) is = absurd (none-some one is)
+  none_becomes i change found h3 = search arith
 
   none_operates : (server : ℕ) (asked : Request) (found : Option State) → (operates w server asked found).done.outcome ≡ Some one → EndsNow fixed w one
-  none_operates server asked None is = absurd (none-some one is)
-  none_operates server asked (Some st) is = by (serve server st (record { stamp = 0; value = asked })) is
-    where
-      by : (what : Option Served) → (operated w st what).done.outcome ≡ Some one → EndsNow fixed w one
-      by None is = absurd (none-some one is)
-      by (Some what) is = absurd (none-some one is)
+  none_operates server asked found h3 = search arith
 
   pub who_ends : (event : Event) → (step fixed w event).done.outcome ≡ Some one → EndsNow fixed w one
   who_ends (Begin i job) is = none_becomes i (λ agent. begin fixed agent job) (actor_at w i) is

@@ -1,9 +1,9 @@
 -- A suite whose copies in effect have at a quorum the versions that they had is the register that it was; and where nothing is in the way what is stored is in effect.
-use Rattle.law_run_recovers.proofs.Vocabulary.{◌≡◌, ◌≢◌, ◌⊎◌, inl, inr, ℕ, ◌≤◌, ◌<◌, Bool, true, false, cond, Option, Some, None, refl, sym, ap, subst, ◌∙◌, arith, ◌==◌, unwrap_or, nat_cmp, false≢true, eqb-true, get, Opening, LockMode}
-use Rattle.law_run_recovers.proofs.Vocabulary.{Replica, IsConsistent, conflicts, in_the_way, copy_of, left_by, State, has_from, find_none, server_at, Beginning, row, prefix_at, content_at, empty_of, Inv, plan_of, Shows, servers_of, home_in}
+use Rattle.law_run_recovers.proofs.Vocabulary.{◌≡◌, ◌≢◌, inl, inr, ℕ, Bool, true, false, cond, Option, Some, None, refl, sym, ap, ◌∙◌, arith, ◌==◌, unwrap_or, nat_cmp, false≢true, eqb-true, get, Opening, LockMode, IsConsistent, conflicts, in_the_way}
+use Rattle.law_run_recovers.proofs.Vocabulary.{copy_of, left_by, State, has_from, find_none, server_at, Beginning, row, prefix_at, content_at, Inv, plan_of, Shows, servers_of, home_in}
 use Rattle.law_suite_machine.specs.Laws.{Stays}
 use Rattle.law_suite_machine.proofs.Knowing.{within_row}
-use Rattle.law_suite_machine.specs.Machine.{World, Verdict, is_answered, Answered, IsQuorum, in_effect, effect}
+use Rattle.law_suite_machine.specs.Machine.{World, is_answered, Answered, IsQuorum, in_effect, effect}
 use Rattle.rep_core.specs.Intentions as server
 use Rattle.rep_core.specs.State as state
 use Rattle.run_core.specs.Worlds as worlds
@@ -14,37 +14,13 @@ use Rattle.law_run_recovers.proofs.Stand.{in_conflict}
 module _ (start : Beginning) (old now : World) (inv_old : Inv start old) (inv_now : Inv start now) (stays : Stays start old now) (set : ℕ → Bool) (quorum : IsQuorum (row start now.log).prefix.votes set)
     (same : (i : ℕ) → set i ≡ true → ((effect now i).prefix.pver ≡ (effect old i).prefix.pver) × ((effect now i).dver ≡ (effect old i).dver)) where
   version_same : (row start now.log).prefix.pver ≡ (row start old.log).prefix.pver
-  version_same =
-      let x = inv_now.current.reach (row start now.log).prefix.pver (omega arith) set (subst (λ p. IsQuorum p.votes set) (sym inv_now.logged.own.0.1) quorum) in
-      let top = (inv_now.current.were x.0).0.0 in
-      let is = reached x.0 top x.2 in
-      let shown = (same x.0 x.1).0 in
-      let most = (inv_old.current.were x.0).0.0 in
-      let grown = (stays.prefixes (row start old.log).prefix inv_old.logged.own.0).0 in
-      omega (arith, is, shown, most, grown)
-    where
-      reached : (i : ℕ) → (effect now i).prefix.pver ≤ (row start now.log).prefix.pver
-          → ((row start now.log).prefix.pver < (effect now i).prefix.pver) ⊎ ((effect now i).prefix.pver ≡ (row start now.log).prefix.pver) → (effect now i).prefix.pver ≡ (row start now.log).prefix.pver
-      reached i top (inl above) = absurd (omega (arith, top, above))
-      reached i top (inr is) = is
+  version_same = search arith
 
   prefix_same : (row start now.log).prefix ≡ (row start old.log).prefix
   prefix_same = sym inv_now.logged.own.0.1 ∙ ap (prefix_at start now.log) version_same ∙ (stays.prefixes (row start old.log).prefix inv_old.logged.own.0).1
 
   dver_same : (row start now.log).dver ≡ (row start old.log).dver
-  dver_same =
-      let y = inv_now.current.content set quorum in
-      let is = y.2 in
-      let shown = (same y.0 y.1).1 in
-      let most = within_row start old inv_old y.0 in
-      let grown = grows in
-      omega (arith, is, shown, most, grown)
-    where
-      grows : (row start old.log).dver ≤ (row start now.log).dver
-      grows = elim (inv_old.logged.own.1) [
-        | inl own ↦ (stays.contents (row start old.log).dver (row start old.log).content own).1
-        | inr none ↦ let zero' = none.0 in omega (arith, zero')
-      ]
+  dver_same = search (within_row, arith)
 
   content_same : (row start now.log).content ≡ (row start old.log).content
   content_same = elim (inv_now.logged.own.1) [
@@ -52,31 +28,18 @@ module _ (start : Beginning) (old now : World) (inv_old : Inv start old) (inv_no
       | inl was ↦ (stays.contents (row start old.log).dver (row start old.log).content was).2
       | inr none ↦ let some = own.0 in let zero' = none.0 in let both = dver_same in absurd (omega (arith, some, zero', both))
     ]
-    | inr none ↦ none.1 ∙ ap empty_of prefix_same ∙ elim (inv_old.logged.own.1) [
-      | inl was ↦ let some = was.0 in let zero' = none.0 in let both = dver_same in absurd (omega (arith, some, zero', both))
-      | inr before ↦ sym before.1
-    ]
+    | inr none ↦ search (prefix_same, dver_same, arith)
   ]
 
   pub row_same : row start now.log ≡ row start old.log
-  row_same =
-      ap (λ prefix. the (record { prefix = prefix; dver = (row start now.log).dver; content = (row start now.log).content })) prefix_same
-      ∙ ap (λ dver. the (record { prefix = (row start old.log).prefix; dver = dver; content = (row start now.log).content })) dver_same
-      ∙ ap (λ content. the (record { prefix = (row start old.log).prefix; dver = (row start old.log).dver; content = content })) content_same
-    where
-      the : Replica → Replica
-      the copy = copy
+  row_same = search (prefix_same, dver_same, content_same, arith)
 
 -- ---- what is in effect where nothing is in the way
 
 module _ (given : Opening) (z : ℕ) (w : World) (world : worlds.World) (shows : Shows z (home_in given) (servers_of given world) w) (all : (i : ℕ) (st : State) → server_at world i ≡ Some st → IsConsistent st)
     (t : ℕ) (mode : LockMode) (unanswered : w.verdict t ≢ Some Answered) where
   none_yet : is_answered (w.verdict t) ≡ false
-  none_yet = of (w.verdict t) refl
-    where
-      of : (found : Option Verdict) → w.verdict t ≡ found → is_answered found ≡ false
-      of (Some Answered) is = absurd (unanswered is)
-      of other is = refl
+  none_yet = search arith
 
   -- where nothing is in a transaction's way that is not answered, what is stored is in effect
   pub stored_effect : (i : ℕ) (st : State) → server_at world i ≡ Some st → in_the_way t z mode st.locks ≡ None → effect w i ≡ copy_of st.store z

@@ -1,8 +1,7 @@
 -- What an event that does not hinder an agent is to it: nothing at all, or its own step, which was served.
-use Rattle.law_run_recovers.proofs.Vocabulary.{◌≡◌, ◌≢◌, ◌⊎◌, inl, inr, ⊎_elim, ℕ, ◌+◌, Bool, true, false, cond, Option, Some, None, is_some, refl, sym, ap, subst, ◌∙◌, ◌*◌, ◌==◌, ◌&&◌, not, nat_lt, slice_get, slice_set, false≢true}
-use Rattle.law_run_recovers.proofs.Vocabulary.{and_parts, eqb-true, eq-eqb, not-false, none-some, same_Some, Opening, Request, Ending, Job, Lacked, Doing, Fixed, Agent, fixed_of, is_idle, has_sense, max_jobs, next_in, next_of, take, begin}
-use Rattle.law_run_recovers.proofs.Vocabulary.{started, forget, Event, Begin, Step, Forget, Lack, EndedJob, Actor, World, Stepped, actor_at, has_no_job, with_actor, moved, outcome_of, becomes, asks, steps_once, lacks_for, lacks, step}
-use Rattle.law_run_recovers.proofs.Vocabulary.{begins_now, same_or, puts_in, none_of, with_job, hinders}
+use Rattle.law_run_recovers.proofs.Vocabulary.{◌≡◌, ◌≢◌, ◌⊎◌, inl, inr, ⊎_elim, ℕ, Bool, true, false, Option, Some, None, is_some, refl, sym, ap, ◌∙◌, ◌==◌, ◌&&◌, not, nat_lt, slice_get, slice_set, false≢true, arith, and_parts, eqb-true, eq-eqb}
+use Rattle.law_run_recovers.proofs.Vocabulary.{not-false, none-some, same_Some, Opening, Request, Ending, Job, Lacked, Fixed, fixed_of, next_of, take, begin, forget, Event, Begin, Step, Forget, Lack, EndedJob, Actor, World, Stepped, actor_at}
+use Rattle.law_run_recovers.proofs.Vocabulary.{has_no_job, with_actor, moved, outcome_of, becomes, steps_once, lacks_for, lacks, step, begins_now, same_or, puts_in, none_of, with_job, hinders}
 use Rattle.rep_core.specs.declared.stamped.Lack.{Lack as Why}
 
 -- servers and the agent are as they were, and no job of the agent ended
@@ -12,8 +11,7 @@ pub record Aside (agent : ℕ) (world : World) (stepped : Stepped) : Type 0 wher
   pub other : (job : EndedJob) → stepped.done.outcome ≡ Some job → job.agent ≢ agent
 
 pub both_false : (a b : Bool) → (a && b) ≡ false → a ≡ true → b ≡ false
-both_false true b none is = none
-both_false false b none is = absurd (false≢true is)
+both_false a b h2 h3 = search arith
 
 module _ (given : Opening) (agent : ℕ) (world : World) where
   abbrev fixed : Fixed
@@ -34,27 +32,10 @@ module _ (given : Opening) (agent : ℕ) (world : World) where
 
   begin_aside : (other : ℕ) (job : Job) (found : Option Actor) → actor_at world other ≡ found → ((other == agent) && is_some (with_job job (begins_now fixed other job found))) ≡ false
       → Aside agent world (becomes world other (λ a. begin fixed a job) found)
-  begin_aside other job None is calm = nothing (becomes world other (λ a. begin fixed a job) None) refl refl
-  begin_aside other job (Some actor) is calm =
-      let begun : Agent = record (started fixed actor.agent job) { count = actor.agent.count + 1 } in
-      elim (is_idle actor.agent.doing && has_sense fixed job && nat_lt actor.agent.count max_jobs) as
-      (λ b. ((other == agent) && is_some (with_job job (cond b (Some (64 * actor.agent.count + other)) None))) ≡ false
-      → Aside agent world (record { world = with_actor other (record actor { agent = cond b begun actor.agent }) world; done = record { served = None; outcome = None } })) [
-        | true ↦ λ calm. record {
-          servers = refl;
-          actor = apart_put other actor (record actor { agent = begun }) is (λ at. absurd (false≢true (sym (both_false (other == agent) true calm (eq-eqb other agent (sym at))))));
-          other = λ job some. absurd (none-some job some);
-        }
-        | false ↦ λ _. record { servers = refl; actor = same_put other actor is; other = λ job some. absurd (none-some job some) }
-      ] calm
+  begin_aside other job found h3 h4 = search (nothing, nat_lt, with_job, apart_put, false≢true, both_false, eq-eqb, none-some, same_put, arith)
 
   forget_aside : (other site : ℕ) (found : Option Actor) → actor_at world other ≡ found → (other == agent) ≡ false → Aside agent world (becomes world other (λ a. forget a site) found)
-  forget_aside other site None is calm = nothing (becomes world other (λ a. forget a site) None) refl refl
-  forget_aside other site (Some actor) is calm = record {
-    servers = refl;
-    actor = apart_put other actor (record actor { agent = forget actor.agent site }) is (λ at. false≢true (sym calm ∙ eq-eqb other agent (sym at)));
-    other = λ job some. absurd (none-some job some);
-  }
+  forget_aside other site found h3 h4 = search (nothing, apart_put, false≢true, eq-eqb, none-some, arith)
 
   lack_aside : (other : ℕ) (why : Why) (found : Option Actor) → actor_at world other ≡ found → ((other == agent) && not (has_no_job (actor_at world agent))) ≡ false → Aside agent world (lacks fixed world other (Lacked why) found)
   lack_aside other why None is calm = nothing (lacks fixed world other (Lacked why) None) refl refl
@@ -62,14 +43,10 @@ module _ (given : Opening) (agent : ℕ) (world : World) where
     where
       -- the agent itself asks nothing
       not_own : (asked : ℕ × Request) → next_of fixed actor.agent ≡ Some asked → other ≢ agent
-      not_own asked next at =
-          let none = both_false (other == agent) (not (has_no_job (actor_at world agent))) calm (eq-eqb other agent at) in
-          let found : actor_at world agent ≡ Some actor = ap (actor_at world) (sym at) ∙ is in
-          none-some asked (sym (ap (next_in fixed) (none_of actor.agent.doing (not-false (is_idle actor.agent.doing) (ap (λ found. not (has_no_job found)) (sym found) ∙ none)))) ∙ next)
+      not_own asked next at = search (both_false, eq-eqb, none-some, none_of, not-false, arith)
 
       ended : (ending : Option Ending) (job : EndedJob) → outcome_of other actor ending ≡ Some job → job.agent ≡ other
-      ended None job some = absurd (none-some job some)
-      ended (Some ending) job some = ap (λ (job : EndedJob). job.agent) (sym (same_Some _ job some))
+      ended ending job h2 = search (none-some, same_Some, arith)
 
       of : (asked : Option (ℕ × Request)) → next_of fixed actor.agent ≡ asked → Aside agent world (lacks_for fixed world other actor (Lacked why) asked)
       of None next = nothing (lacks_for fixed world other actor (Lacked why) None) refl refl
@@ -84,19 +61,7 @@ module _ (given : Opening) (agent : ℕ) (world : World) where
 
   step_aside : (other : ℕ) (found : Option Actor) → actor_at world other ≡ found → (not (has_no_job found) && not ((other == agent) && is_some (steps_once fixed world other found).done.served)) ≡ false
       → Aside agent world (steps_once fixed world other found) ⊎ ((other ≡ agent) × (is_some (steps_once fixed world other found).done.served ≡ true))
-  step_aside other None is calm = inl (nothing (steps_once fixed world other None) refl refl)
-  step_aside other (Some actor) is calm = of actor.agent.doing refl
-    where
-      now : Option (ℕ × Request) → Stepped
-      now asked = asks fixed world other actor asked
-
-      of : (doing : Option Doing) → actor.agent.doing ≡ doing → Aside agent world (now (next_of fixed actor.agent)) ⊎ ((other ≡ agent) × (is_some (now (next_of fixed actor.agent)).done.served ≡ true))
-      of None idle = subst (λ asked. Aside agent world (now asked) ⊎ ((other ≡ agent) × (is_some (now asked).done.served ≡ true))) (sym (ap (next_in fixed) idle)) (inl (nothing (now None) refl refl))
-      of (Some doing) busy =
-          let some : not (is_idle actor.agent.doing) ≡ true = ap (λ doing. not (is_idle doing)) busy in
-          let both = not-false ((other == agent) && is_some (now (next_of fixed actor.agent)).done.served) (both_false (not (is_idle actor.agent.doing)) _ calm some) in
-          let parts = and_parts (other == agent) (is_some (now (next_of fixed actor.agent)).done.served) both in
-          inr (eqb-true other agent parts.0, parts.1)
+  step_aside other found h2 h3 = search (nothing, not-false, both_false, and_parts, eqb-true, arith)
 
   pub event_aside : (event : Event) → hinders given agent world event ≡ false → Aside agent world (step fixed world event) ⊎ IsOwnStep event
   event_aside (Begin other job) calm = inl (begin_aside other job (actor_at world other) refl calm)

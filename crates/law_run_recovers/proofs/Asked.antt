@@ -1,7 +1,7 @@
 -- Of whom a collector asks, and in which mode: of one that has a vote by the votes that count, as it wants.
-use Rattle.law_run_recovers.proofs.Vocabulary.{◌≡◌, inl, inr, ℕ, Bool, true, false, cond, List, [], ◌∷◌, Option, Some, None, refl, sym, ap, subst, ◌∙◌, ◌==◌, ◌&&◌, not, nat_lt, nat_le, find, false≢true, and_parts, and_from, eqb-true}
-use Rattle.law_run_recovers.proofs.Vocabulary.{eq-eqb, Representative, LockMode, Shared, Exclusive, serves, Has, any_has, has_any, find_some, newest, holds, has_refused, Collector, Asked, Poll, Upgrade, all_told, counted, wanted, needed}
-use Rattle.law_run_recovers.proofs.Vocabulary.{got, is_member, is_left, members_of, version, ask_or_short, mode_asked, Next, Current, Ask, Short, next, has_vote, has_asked, not-true}
+use Rattle.law_run_recovers.proofs.Vocabulary.{◌≡◌, inl, inr, ℕ, Bool, true, false, cond, List, [], ◌∷◌, Option, Some, None, refl, sym, ap, subst, ◌∙◌, ◌==◌, ◌&&◌, not, nat_lt, nat_le, find, false≢true, and_parts, and_from, eqb-true, arith, eq-eqb}
+use Rattle.law_run_recovers.proofs.Vocabulary.{Representative, LockMode, Shared, Exclusive, serves, Has, any_has, has_any, find_some, newest, holds, has_refused, Collector, Asked, Poll, Upgrade, all_told, counted, wanted, needed, got, is_member}
+use Rattle.law_run_recovers.proofs.Vocabulary.{is_left, members_of, version, ask_or_short, mode_asked, Next, Current, Ask, Short, next, has_vote, has_asked, not-true}
 use Rattle.law_run_recovers.proofs.Asking.{onto}
 use Rattle.law_run_recovers.proofs.Polled.{first_left}
 
@@ -24,8 +24,7 @@ asked_exclusive asked z is =
     subst (λ mode. Has asked (z, mode)) (strongest some.0.1 parts.1) (subst (λ z. Has asked (z, some.0.1)) (eqb-true some.0.0 z parts.0) some.1)
   where
     strongest : (mode : LockMode) → serves mode Exclusive ≡ true → mode ≡ Exclusive
-    strongest Exclusive is = refl
-    strongest Shared is = absurd (false≢true is)
+    strongest mode h1 = search (false≢true, arith)
 
 -- ---- a collector
 
@@ -57,12 +56,10 @@ module _ (c : Collector) (server : ℕ) (question : Asked) (is : next c ≡ Ask 
       question_of (Short had wanting busy) = question
 
       upgrades : (mode : LockMode) (rep : Representative) → holds mode (all_told c) rep.0 ≡ false → holds Shared (all_told c) rep.0 ≡ true → Exclusive ≡ mode
-      upgrades Shared rep member held = absurd (false≢true (sym member ∙ held))
-      upgrades Exclusive rep member held = refl
+      upgrades mode rep h2 h3 = search (false≢true, arith)
 
       by : (rep : Representative) → is_member c rep.0 ≡ false → (b : Bool) → holds Shared (all_told c) rep.0 ≡ b → mode_asked (cond b Upgrade (Poll (wanted c))) ≡ wanted c
-      by rep member true held = upgrades (wanted c) rep member held
-      by rep member false held = refl
+      by rep h1 b h3 = search (upgrades, arith)
 
       of : (b : Bool) (found : Option Representative) → find (is_left c) (counted c).reps ≡ found
           → cond b (Current (newest c.start c.told) (version c) (members_of (counted c) (is_member c))) (ask_or_short c found) ≡ Ask server question → mode_asked question ≡ wanted c

@@ -1,6 +1,5 @@
 -- Who asked what an event served: in a transaction's name only an agent does, in a step of its own.
-use Rattle.law_run_recovers.proofs.Vocabulary.{◌≡◌, ℕ, true, Some, refl, sym, ap, ◌∙◌, false≢true, none-some, Fixed, next_of, begin, forget, Served, Event, Begin, Step, Crash, Return, Forget, Lack, Actor, World, server_at, actor_at, step}
-use Rattle.law_run_recovers.proofs.Vocabulary.{names}
+use Rattle.law_run_recovers.proofs.Vocabulary.{◌≡◌, ℕ, true, Some, refl, sym, ap, ◌∙◌, false≢true, none-some, Fixed, next_of, begin, forget, Served, Event, Begin, Step, Crash, Return, Forget, Lack, Actor, World, server_at, actor_at, step, names}
 use Rattle.rep_core.specs.declared.request.Request.TheVariants as request
 use Rattle.law_run_recovers.proofs.Keeps.{step_asks, operates_it, becomes_none, lacks_none}
 

@@ -1,7 +1,6 @@
 -- What a transaction asks for in its order: what it has asked for so far, and what is asked next.
-use Rattle.law_run_recovers.proofs.Vocabulary.{◌≡◌, inl, inr, ℕ, Bool, true, false, cond, List, [], ◌∷◌, ◌++◌, Option, Some, None, refl, sym, ap, ◌∙◌, arith, ◌==◌, ◌&&◌, ◌||◌, not, find, map, list_any, nat_cmp, false≢true, nat_tests}
-use Rattle.law_run_recovers.proofs.Vocabulary.{none-some, same_Some, IsOrdered, LockMode, Shared, Exclusive, serves, Has, Need, Hold, Know, KnownSuite, Known, is_opened, first_unmet, ReadPoint, GatheredSuite, Suites, suite_of, known_row}
-use Rattle.law_run_recovers.proofs.Vocabulary.{known_of, has_asked, not_asked, is_held}
+use Rattle.law_run_recovers.proofs.Vocabulary.{◌≡◌, ℕ, Bool, true, false, List, [], ◌∷◌, ◌++◌, Option, Some, None, refl, sym, ap, ◌∙◌, arith, ◌==◌, ◌&&◌, ◌||◌, find, map, list_any, nat_cmp, false≢true, none-some, same_Some, IsOrdered, LockMode}
+use Rattle.law_run_recovers.proofs.Vocabulary.{Shared, serves, Has, Need, Hold, Know, KnownSuite, Known, first_unmet, ReadPoint, GatheredSuite, Suites, suite_of, known_row, known_of, has_asked, not_asked, is_held}
 use Rattle.txn_core.proofs.Growing.{known_from}
 use Rattle.txn_core.proofs.Setting.{known_at}
 use Rattle.file_exec.specs.Known as known
@@ -14,10 +13,7 @@ onto [] left = left
 onto (x ∷ so_far) left = onto so_far (x ∷ left)
 
 turned : (a b c : Bool) → (b || (a || c)) ≡ ((a || b) || c)
-turned true true c = refl
-turned true false c = refl
-turned false true c = refl
-turned false false c = refl
+turned a b c = search arith
 
 -- a test that one of both passes
 pub any_onto : {X : Type 0} (p : X → Bool) (so_far left : List X) → list_any p (onto so_far left) ≡ (list_any p so_far || list_any p left)
@@ -27,25 +23,15 @@ any_onto p (x ∷ so_far) left = any_onto p so_far (x ∷ left) ∙ turned (p x)
 -- where none that came so far passes a test, the first that does is among what is left
 pub find_past : {X Y : Type 0} (g : X → Y) (f : Y → Bool) (so_far left : List X) (later : List Y) → ((x : X) → Has so_far x → f (g x) ≡ false) → find f (map g (onto so_far left) ++ later) ≡ find f (map g left ++ later)
 find_past g f [] left later none = refl
-find_past g f (x ∷ so_far) left later none =
-    find_past g f so_far (x ∷ left) later (λ y has. none y (inr has))
-    ∙ ap (λ b. cond b (Some (g x)) (find f (map g left ++ later))) (none x (inl refl))
+find_past g f (x ∷ so_far) left later none = search (find_past g f so_far (x ∷ left) later, arith)
 
 -- ---- what is asked next
 
 or_true : (b : Bool) → (b || true) ≡ true
-or_true true = refl
-or_true false = refl
+or_true b = search arith
 
 asks_itself : (asked : List (ℕ × LockMode)) (suite : ℕ) (mode : LockMode) → has_asked ((suite, mode) ∷ asked) suite mode ≡ true
-asks_itself asked suite mode = ap (λ b. (b && serves mode mode) || has_asked asked suite mode) (same suite) ∙ of mode
-  where
-    same : (n : ℕ) → (n == n) ≡ true
-    same n = grind (arith, nat_tests)
-
-    of : (mode : LockMode) → (serves mode mode || has_asked asked suite mode) ≡ true
-    of Shared = refl
-    of Exclusive = refl
+asks_itself asked suite mode = search arith
 
 asks_more : (asked : List (ℕ × LockMode)) (one : ℕ × LockMode) (suite : ℕ) (mode : LockMode) → has_asked asked suite mode ≡ true → has_asked (one ∷ asked) suite mode ≡ true
 asks_more asked one suite mode is = ap (λ b. ((one.0 == suite) && serves one.1 mode) || b) is ∙ or_true ((one.0 == suite) && serves one.1 mode)
@@ -67,68 +53,20 @@ module _ (all : Known) (asked : List (ℕ × LockMode)) (modes : (suite : ℕ) (
   -- the first lock that it needs and has not is what it asks for next
   pub first_hold : (needed : List Need) (suite : ℕ) (mode : LockMode) → first_unmet all needed ≡ Some (Hold suite mode) → not_asked asked needed ≡ (suite, mode) ∷ not_asked ((suite, mode) ∷ asked) needed
   first_hold [] suite mode is = absurd (none-some _ is)
-  first_hold (Hold s m ∷ needed) suite mode is = of (has_asked asked s m) refl (first_hold needed suite mode)
-    where
-      had : (b : Bool) → has_asked asked s m ≡ b → cond (not b) (Some (Hold s m)) (first_unmet all needed) ≡ Some (Hold suite mode)
-      had b has = sym (ap (λ b. cond (not b) (Some (Hold s m)) (first_unmet all needed)) (modes s m ∙ has)) ∙ is
-
-      of : (b : Bool) → has_asked asked s m ≡ b → (first_unmet all needed ≡ Some (Hold suite mode) → not_asked asked needed ≡ (suite, mode) ∷ not_asked ((suite, mode) ∷ asked) needed)
-          → not_asked asked (Hold s m ∷ needed) ≡ (suite, mode) ∷ not_asked ((suite, mode) ∷ asked) (Hold s m ∷ needed)
-      of true has go =
-          ap (λ b. cond b (not_asked asked needed) ((s, m) ∷ not_asked ((s, m) ∷ asked) needed)) has
-          ∙ go (had true has)
-          ∙ sym (ap (λ b. (suite, mode) ∷ cond b (not_asked ((suite, mode) ∷ asked) needed) ((s, m) ∷ not_asked ((s, m) ∷ (suite, mode) ∷ asked) needed)) (asks_more asked (suite, mode) s m has))
-      of false has go =
-          let same = same_Some (Hold s m) (Hold suite mode) (had false has) in
-          let suites : s ≡ suite = ap suite_in same in
-          let modes' : m ≡ mode = ap mode_in same in
-          ap (λ b. cond b (not_asked asked needed) ((s, m) ∷ not_asked ((s, m) ∷ asked) needed)) has
-          ∙ ap (λ s. (s, m) ∷ not_asked ((s, m) ∷ asked) needed) suites
-          ∙ ap (λ m. (suite, m) ∷ not_asked ((suite, m) ∷ asked) needed) modes'
-          ∙ sym (ap (λ b. (suite, mode) ∷ cond b (not_asked ((suite, mode) ∷ asked) needed) ((s, m) ∷ not_asked ((s, m) ∷ (suite, mode) ∷ asked) needed))
-          (ap (λ s. has_asked ((suite, mode) ∷ asked) s m) suites ∙ ap (has_asked ((suite, mode) ∷ asked) suite) modes' ∙ asks_itself asked suite mode))
-  first_hold (Know s ∷ needed) suite mode is = of (is_opened (known.known_of all s)) is (first_hold needed suite mode)
-    where
-      of : (b : Bool) → cond (not b) (Some (Know s)) (first_unmet all needed) ≡ Some (Hold suite mode)
-          → (first_unmet all needed ≡ Some (Hold suite mode) → not_asked asked needed ≡ (suite, mode) ∷ not_asked ((suite, mode) ∷ asked) needed)
-          → not_asked asked needed ≡ (suite, mode) ∷ not_asked ((suite, mode) ∷ asked) needed
-      of true is go = go is
-      of false is go = absurd (false≢true (ap is_hold (same_Some (Know s) (Hold suite mode) is)))
+  first_hold (Hold s m ∷ needed) suite mode is = search (asks_more, same_Some, asks_itself, first_hold needed suite mode, arith)
+  first_hold (Know s ∷ needed) suite mode is = search (false≢true, same_Some, first_hold needed suite mode, arith)
 
   -- and it was not asked for
   pub first_new : (needed : List Need) (suite : ℕ) (mode : LockMode) → first_unmet all needed ≡ Some (Hold suite mode) → has_asked asked suite mode ≡ false
   first_new [] suite mode is = absurd (none-some _ is)
-  first_new (Hold s m ∷ needed) suite mode is = of (has_asked asked s m) refl (first_new needed suite mode)
-    where
-      had : (b : Bool) → has_asked asked s m ≡ b → cond (not b) (Some (Hold s m)) (first_unmet all needed) ≡ Some (Hold suite mode)
-      had b has = sym (ap (λ b. cond (not b) (Some (Hold s m)) (first_unmet all needed)) (modes s m ∙ has)) ∙ is
-
-      of : (b : Bool) → has_asked asked s m ≡ b → (first_unmet all needed ≡ Some (Hold suite mode) → has_asked asked suite mode ≡ false) → has_asked asked suite mode ≡ false
-      of true has go = go (had true has)
-      of false has go =
-          let same = same_Some (Hold s m) (Hold suite mode) (had false has) in
-          sym (ap (λ s. has_asked asked s m) (ap suite_in same) ∙ ap (has_asked asked suite) (ap mode_in same)) ∙ has
-  first_new (Know s ∷ needed) suite mode is = of (is_opened (known.known_of all s)) is (first_new needed suite mode)
-    where
-      of : (b : Bool) → cond (not b) (Some (Know s)) (first_unmet all needed) ≡ Some (Hold suite mode) → (first_unmet all needed ≡ Some (Hold suite mode) → has_asked asked suite mode ≡ false) → has_asked asked suite mode ≡ false
-      of true is go = go is
-      of false is go = absurd (false≢true (ap is_hold (same_Some (Know s) (Hold suite mode) is)))
+  first_new (Hold s m ∷ needed) suite mode is = search (same_Some, first_new needed suite mode, arith)
+  first_new (Know s ∷ needed) suite mode is = search (false≢true, same_Some, first_new needed suite mode, arith)
 
   -- where all that it needs is known, nothing is left to be asked for
   pub none_left : (needed : List Need) → first_unmet all needed ≡ None → not_asked asked needed ≡ []
   none_left [] is = refl
-  none_left (Hold s m ∷ needed) is = of (has_asked asked s m) refl (none_left needed)
-    where
-      of : (b : Bool) → has_asked asked s m ≡ b → (first_unmet all needed ≡ None → not_asked asked needed ≡ []) → not_asked asked (Hold s m ∷ needed) ≡ []
-      of true has go =
-          ap (λ b. cond b (not_asked asked needed) ((s, m) ∷ not_asked ((s, m) ∷ asked) needed)) has
-          ∙ go (sym (ap (λ b. cond (not b) (Some (Hold s m)) (first_unmet all needed)) (modes s m ∙ has)) ∙ is)
-      of false has go = absurd (none-some (Hold s m) (sym is ∙ ap (λ b. cond (not b) (Some (Hold s m)) (first_unmet all needed)) (modes s m ∙ has)))
-  none_left (Know s ∷ needed) is = of (is_opened (known.known_of all s)) is (none_left needed)
-    where
-      of : (b : Bool) → cond (not b) (Some (Know s)) (first_unmet all needed) ≡ None → (first_unmet all needed ≡ None → not_asked asked needed ≡ []) → not_asked asked needed ≡ []
-      of true is go = go is
-      of false is go = absurd (none-some (Know s) (sym is))
+  none_left (Hold s m ∷ needed) is = search (none-some, none_left needed, arith)
+  none_left (Know s ∷ needed) is = search (none-some, none_left needed, arith)
 
 -- ---- in which modes suites are known
 
@@ -152,9 +90,7 @@ known_is suites ordered number = of (suite_of suites number) refl
         absurd (none from.suite from.first (sym is ∙ from.there) from.was)
 
     first_of : (suite : GatheredSuite) → suite_of suites number ≡ Some suite → (first : Option ReadPoint) → suite.first ≡ first → known.known_of (known_of suites) number ≡ known_if_first suite first
-    first_of suite is (Some first) was = known_at suites number suite first is was
-    first_of suite is None was =
-        none_but (Some suite) is (λ other first same had. none-some first (sym was ∙ ap (λ (suite : GatheredSuite). suite.first) (same_Some suite other same) ∙ had)) (known.known_of (known_of suites) number) refl
+    first_of suite h1 first h3 = search (known_at, none_but, none-some, same_Some, arith)
 
     of : (found : Option GatheredSuite) → suite_of suites number ≡ found → known.known_of (known_of suites) number ≡ known_in found
     of None is = none_but None is (λ suite first none had. none-some suite none) (known.known_of (known_of suites) number) refl
@@ -170,12 +106,4 @@ held_in mode (Some suite) = held_if suite mode suite.first
 held_in mode None = false
 
 pub held_is : (suites : Suites) → IsOrdered nat_cmp suites → (number : ℕ) (mode : LockMode) → is_held mode (known.known_of (known_of suites) number) ≡ held_in mode (suite_of suites number)
-held_is suites ordered number mode = ap (is_held mode) (known_is suites ordered number) ∙ of (suite_of suites number)
-  where
-    by : (suite : GatheredSuite) (first : Option ReadPoint) → is_held mode (known_if_first suite first) ≡ held_if suite mode first
-    by suite (Some first) = refl
-    by suite None = refl
-
-    of : (found : Option GatheredSuite) → is_held mode (known_in found) ≡ held_in mode found
-    of (Some suite) = by suite suite.first
-    of None = refl
+held_is suites ordered number mode = search (known_is, arith)

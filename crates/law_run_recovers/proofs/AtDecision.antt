@@ -1,48 +1,20 @@
 -- At a decision: its server is up, and the newest prefix that was seen of a suite is that of its row.
-use Rattle.law_run_recovers.proofs.Vocabulary.{◌≡◌, ℕ, true, false, cond, List, Option, Some, None, is_some, refl, sym, ap, ◌∙◌, none-some, Opening, Prefix, Request, Stamped, State, record_of, reply_of, reply_up, reply_down, is_full}
-use Rattle.law_run_recovers.proofs.Vocabulary.{answer_of, GatheredSuite, suite_of, Fixed, Task, changes_of, fixed_of, newest_of, IsReady, Event, Step, Served, Actor, World, server_at, answered, asks_at, run, Decided, decided, decided_at}
-use Rattle.law_run_recovers.proofs.Vocabulary.{decided_as, decided_by, to_decide, answer_in, IsAnsweredAsKnown, Beginning, row, prefix_at, beginning, machine_of, row_at, CanBe, Together, holds_after, undecided, votes_of_row, up_in, is_up}
+use Rattle.law_run_recovers.proofs.Vocabulary.{◌≡◌, ℕ, true, List, Option, Some, None, refl, sym, ap, ◌∙◌, Opening, Prefix, Request, State, reply_of, arith, GatheredSuite, suite_of, Fixed, Task, changes_of, fixed_of, newest_of, IsReady, Event, Step}
+use Rattle.law_run_recovers.proofs.Vocabulary.{Actor, World, server_at, asks_at, run, Decided, decided, decided_at, decided_as, decided_by, answer_in, IsAnsweredAsKnown, Beginning, row, prefix_at, beginning, machine_of, row_at, CanBe, Together}
+use Rattle.law_run_recovers.proofs.Vocabulary.{holds_after, undecided, votes_of_row, is_up}
 use Rattle.law_run_knowledge.proofs.Decided.{suite_was, newest_prefix}
 use Rattle.law_headline.proofs.Owing.{owes_known}
 use Rattle.law_headline.proofs.Beside.{row_known}
 use Rattle.law_suite_machine.specs.Machine as machine
 use Rattle.law_run_recovers.proofs.Found.{same_top}
 use Rattle.law_run_recovers.proofs.Rows.{row_votes}
-use Rattle.rep_core.specs.declared.request.Request.TheVariants as request
-
--- a server that is down decides nothing
-down_decides_none : (asked : Request) → answer_in (reply_down asked) ≡ None
-down_decides_none (request.Poll t suite mode) = refl
-down_decides_none other = refl
-
--- a decision is recorded at a server that is up
-pub decided_none : (found : Option State) (asked : Option ℕ) (task : Option Task) → decided_at found asked (decided_as task None) ≡ None
-decided_none found None task = refl
-decided_none None (Some t) task = refl
-decided_none (Some st) (Some t) None = elim (is_some (record_of st t)) as (λ b. ◌≡◌ {A = Option Decided} (cond b None None) None) [ true ↦ refl | false ↦ refl ]
-decided_none (Some st) (Some t) (Some task) = elim (is_some (record_of st t)) as (λ b. ◌≡◌ {A = Option Decided} (cond b None None) None) [ true ↦ refl | false ↦ refl ]
 
 module _ (fixed : Fixed) (w : World) (i : ℕ) (actor : Actor) (task : Option Task) (one : Decided) where
   up_at : (found : Option State) (place : Option ℕ) (st : State) (asked : Request) → decided_at found place (decided_as task (answer_in (reply_of st asked))) ≡ Some one → st.up ≡ true
-  up_at found place st asked =
-      elim (st.up) as (λ b. decided_at found place (decided_as task (answer_in (cond b (reply_up st asked) (reply_down asked)))) ≡ Some one → b ≡ true) [
-        | true ↦ λ _. refl
-        | false ↦ λ is. absurd (none-some one (sym (ap (λ answer. decided_at found place (decided_as task answer)) (down_decides_none asked) ∙ decided_none found place task) ∙ is))
-      ]
+  up_at found place st asked = search arith
 
   pub decides_up : (asked : ℕ × Request) (found : Option State) → server_at w asked.0 ≡ found → decided_by w task (asks_at fixed w i actor asked found).done.served ≡ Some one → is_up w asked.0 ≡ true
-  decides_up asked None at is = absurd (none-some one is)
-  decides_up asked (Some st) at is' =
-      elim (is_full st stamped) as (λ b. decided_by w task (answered fixed w i actor st (cond b None (Some what))).done.served ≡ Some one → is_up w asked.0 ≡ true) [
-        | true ↦ λ is. absurd (none-some one is)
-        | false ↦ λ is. ap up_in at ∙ up_at (server_at w asked.0) (to_decide asked.1) st asked.1 is
-      ] is'
-    where
-      stamped : Stamped Request
-      stamped = record { stamp = actor.stamp; value = asked.1 }
-
-      what : Served
-      what = record { server = asked.0; request = stamped; reply = answer_of st stamped }
+  decides_up asked found h2 h3 = search arith
 
 -- the newest prefix that it saw is the row's
 module _ (given : Opening) (all : List Event) (can : CanBe given all) (agent : ℕ) (one : Decided) (is : decided (fixed_of given) (run given all) (Step agent) ≡ Some one) (so : IsAnsweredAsKnown given (run given all) (Step agent) one)

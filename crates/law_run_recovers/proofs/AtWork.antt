@@ -1,10 +1,8 @@
 -- A transaction that nobody robs: until its end is fixed the locks that it was told of stand, whatever others do.
-use Rattle.law_run_recovers.proofs.Vocabulary.{◌≡◌, ◌⊎◌, inl, inr, ⊎_elim, Bool, true, false, List, [], ◌∷◌, ◌++◌, append_assoc, Option, Some, None, refl, sym, ap, subst, ◌∙◌, arith, ℕ, ◌==◌, ◌&&◌, ◌||◌, not, false≢true, eqb-true}
-use Rattle.law_run_recovers.proofs.Vocabulary.{nat_tests, none-some, same_Some, Identity, Opening, IsAccepted, Op, Request, State, Transaction, Suites, suite_of, parts_at, Fixed, Task, home_of, Phase, Gathering, Fetching, Preparing}
-use Rattle.law_run_recovers.proofs.Vocabulary.{Deciding, Finishing, Doing, Running, RunningSweep, request_in, changes_of, decision_of, fixed_of, begin, forget, next_in, next_of, asks_same, asked_as, fetched_as, Served, Event, Begin, Step}
-use Rattle.law_run_recovers.proofs.Vocabulary.{Crash, Return, Forget, Lack, Actor, World, server_at, actor_at, run, names, may_sweep, agents_ask_for_themselves, machine_of, machine_one, CanBe, holds_after, begins_job, IsMine, can_front}
-use Rattle.law_run_recovers.proofs.Vocabulary.{Stands, releases, doing_of, is_resolve, never_resolves, Carried, carried_by, runs, is_telling, world_after, takes, up_and, of_up, robs, hinders_itself, drops, bereaves}
-use Rattle.txn_core.specs.Doing.{Widening}
+use Rattle.law_run_recovers.proofs.Vocabulary.{◌≡◌, ◌⊎◌, inl, inr, ⊎_elim, Bool, true, false, List, [], ◌∷◌, ◌++◌, append_assoc, Option, Some, refl, sym, ap, subst, ◌∙◌, arith, ℕ, ◌==◌, ◌&&◌, ◌||◌, not, eqb-true, nat_tests, none-some, same_Some}
+use Rattle.law_run_recovers.proofs.Vocabulary.{Identity, Opening, IsAccepted, Op, Request, State, Transaction, Suites, Fixed, Task, Phase, Doing, Running, request_in, fixed_of, begin, forget, next_in, next_of, Served, Event, Begin, Step, Crash}
+use Rattle.law_run_recovers.proofs.Vocabulary.{Return, Forget, Lack, Actor, World, server_at, actor_at, run, names, may_sweep, agents_ask_for_themselves, machine_of, machine_one, CanBe, holds_after, begins_job, IsMine, can_front, Stands, releases}
+use Rattle.law_run_recovers.proofs.Vocabulary.{doing_of, is_resolve, never_resolves, Carried, carried_by, runs, is_telling, world_after, takes, up_and, of_up, robs, hinders_itself, drops, bereaves}
 use Rattle.law_run_alone.proofs.Untold.{begun_stands, started_untold}
 use Rattle.rep_core.specs.declared.request.Request.TheVariants as request
 use Rattle.law_suite_machine.specs.Machine as machine
@@ -18,27 +16,16 @@ use Rattle.law_run_recovers.proofs.Picks.{along}
 
 -- until its end is fixed a transaction asks for nothing that takes a lock away
 open_releases : (fixed : Fixed) (task : Task) (suites : Suites) (phase : Phase) (server : ℕ) (asked : Request) → request_in fixed task suites phase ≡ Some (server, asked) → IsOpenPhase phase → releases asked ≡ false
-open_releases fixed task suites (Gathering number) server asked is open' = asked_as releases false task number (suite_of suites number) server asked (λ mode. refl) refl is
-open_releases fixed task suites (Fetching number) server asked is open' = fetched_as releases false task number (suite_of suites number) server asked refl is
-open_releases fixed task suites (Widening (number ∷ left) granted) server asked is open' = asked_as releases false task number (suite_of suites number) server asked (λ mode. refl) refl is
-open_releases fixed task suites (Preparing (now ∷ left) outcome) server asked is open' = ap releases (sym (asks_same now server (request.Prepare task.t (parts_at suites (changes_of outcome) now)) asked is))
-open_releases fixed task suites (Deciding outcome) server asked is open' = ap releases (sym (asks_same (home_of fixed.service task.t) server (request.Decide task.t (decision_of task outcome)) asked is))
-open_releases fixed task suites (Finishing servers v ending) server asked is open' = absurd open'
-open_releases fixed task suites other server asked is open' = cc
+open_releases fixed task suites phase server asked h6 h7 = search arith
 
 module _ (t : ℕ) (st : State) where
   -- what takes no lock away and resolves nothing takes nothing
   takes_none : (asked : Request) → releases asked ≡ false → is_resolve asked ≡ false → (takes t st asked ≡ false) × (drops t st asked ≡ false)
-  takes_none (request.Resolve u) none other = absurd (false≢true (sym other))
-  takes_none (request.Finish u v) none other = absurd (false≢true (sym none))
-  takes_none (request.Break u suite) none other = absurd (false≢true (sym none))
-  takes_none request.Crash none other = absurd (false≢true (sym none))
-  takes_none another none other = (refl, refl)
+  takes_none asked h1 h2 = search arith
 
   -- no agent asks a server to crash
   drops_none : (u : ℕ) (asked : Request) → (names u asked ≡ true) ⊎ (may_sweep asked ≡ true) → drops t st asked ≡ false
-  drops_none u request.Crash so = absurd (⊎_elim false≢true false≢true so)
-  drops_none u other so = refl
+  drops_none u asked h2 = search arith
 
 -- ---- one event
 
@@ -64,14 +51,7 @@ module _ (given : Opening) (accepted : IsAccepted given) (all : List Event) (age
   takes_nothing (Forget i site) calm what st served at up = absurd (none-some what (sym (becomes_none w i (λ agent. forget agent site) (actor_at w i)) ∙ served))
   takes_nothing (Lack i why) calm what st served at up = absurd (none-some what (sym (lacks_none (fixed_of given) w i why (actor_at w i)) ∙ served))
   takes_nothing (Return server) calm what st served at up = of_value (Return server) request.Return what st (operates_it w server request.Return (server_at w server) what served) (refl, refl)
-  takes_nothing (Crash server) calm what st served at up =
-      let is = operates_it w server request.Crash (server_at w server) what served in
-      of_value (Crash server) request.Crash what st is (
-        refl,
-        ap (drops t st) (sym is)
-            ∙ bereft (is_telling w agent) st.up (drops t st what.request.value) at_work.untold up
-            (sym (ap (λ found. not (is_telling w agent) && found) (ap (of_up (drops t) w) served ∙ ap (up_and (drops t) what.request.value) at)) ∙ calm),
-      )
+  takes_nothing (Crash server) calm what st served at up = search (operates_it, of_value, bereft, arith)
   takes_nothing (Step other) calm what st served at up = of (other == agent) refl
     where
       asks : (actor : Actor) × (actor_at w other ≡ Some actor) × (next_of (fixed_of given) actor.agent ≡ Some (what.server, what.request.value))
@@ -101,17 +81,10 @@ module _ (given : Opening) (accepted : IsAccepted given) (all : List Event) (age
 -- ---- all along
 
 early : (w : machine.World) (t : ℕ) (doing : Option Doing) → IsOpen doing → holding.DoingStands w t doing → Stands w t
-early w t (Some (Running txn_run)) open' stands = of txn_run.phase open' stands
-  where
-    of : (phase : Phase) → IsOpenPhase phase → holding.PhaseStands w t phase → Stands w t
-    of (Finishing left v ended) open' stands = absurd open'
-    of other open' stands = stands
-early w t other open' stands = absurd open'
+early w t doing h3 h4 = search arith
 
 pub mine_where : (t : ℕ) (doing : Option Doing) → runs t doing ≡ true → IsMine t doing
-mine_where t None is = tt
-mine_where t (Some (RunningSweep sweep_run)) is = absurd (false≢true is)
-mine_where t (Some (Running txn_run)) is = eqb-true txn_run.task.t t is
+mine_where t doing h2 = search arith
 
 module _ (given : Opening) (events later : List Event) (agent t : ℕ) (caller : Identity) (site : ℕ) (ops : List Op) (actor : Actor)
     (can : CanBe given (events ++ Begin agent (Transaction caller site ops) ∷ later)) (there : actor_at (run given events) agent ≡ Some actor)

@@ -1,7 +1,7 @@
 -- Transactions side by side: all along nobody meets any, and each lock at a server that is up is of one that runs and asks for it.
-use Rattle.law_run_recovers.proofs.Vocabulary.{and_from, and_parts, length, list_all, ◌==◌, ◌≡◌, ℕ, Bool, true, false, List, [], ◌∷◌, ◌++◌, append-nil, append_assoc, Some, refl, sym, ap, subst, ◌∙◌, ◌%◌, ◌&&◌, ◌||◌, not, Contains, list_any}
-use Rattle.law_run_recovers.proofs.Vocabulary.{false≢true, same_Some, Opening, IsAccepted, LockMode, Request, State, has_from, has_any, Transaction, Task, request_in, fixed_of, next_in, next_of, Event, Begin, Actor, actor_at, step, run}
-use Rattle.law_run_recovers.proofs.Vocabulary.{names, CanBe, clear_servers, names_mine, can_front, run_more, clashes, clash, Begun, its_asks, GoSideBySide, GoSideBySideWhileDown, running_in, is_running, server_at, asks_for, Sweep, or_right}
+use Rattle.law_run_recovers.proofs.Vocabulary.{and_from, and_parts, length, list_all, ◌==◌, ◌≡◌, ℕ, Bool, true, false, List, [], ◌∷◌, ◌++◌, append-nil, append_assoc, Some, refl, sym, ap, subst, ◌∙◌, ◌%◌, ◌&&◌, ◌||◌, not, Contains, arith, same_Some}
+use Rattle.law_run_recovers.proofs.Vocabulary.{Opening, IsAccepted, LockMode, Request, State, has_from, has_any, Transaction, Task, request_in, fixed_of, next_in, next_of, Event, Begin, Actor, actor_at, step, run, names, CanBe, clear_servers}
+use Rattle.law_run_recovers.proofs.Vocabulary.{names_mine, can_front, run_more, clashes, clash, Begun, its_asks, GoSideBySide, GoSideBySideWhileDown, running_in, is_running, server_at, asks_for, Sweep, or_right}
 use Rattle.rep_core.specs.declared.request.Request.TheVariants as request
 use Rattle.law_run_recovers.proofs.AtWork.{mine_where}
 use Rattle.law_run_recovers.proofs.Keeps.{OfAsks}
@@ -17,27 +17,17 @@ use Rattle.law_run_recovers.proofs.Picks.{along}
 -- ---- tests
 
 pub own_served : (a s n o : Bool) → a ≡ true → s ≡ true → ((a && not s) || (not a && n && o)) ≡ false
-own_served a s n o is served = of a s n o is served
-  where
-    of : (a s n o : Bool) → a ≡ true → s ≡ true → ((a && not s) || (not a && n && o)) ≡ false
-    of true true n o is served = refl
-    of true false n o is served = absurd (false≢true served)
-    of false s n o is served = absurd (false≢true is)
+own_served a s n o is served = search arith
 
 pub others_none : (a s n o : Bool) → a ≡ false → o ≡ false → ((a && not s) || (not a && n && o)) ≡ false
-others_none true s n o is none = absurd (false≢true (sym is))
-others_none false s true o is none = none
-others_none false s false o is none = refl
+others_none a s n o h4 h5 = search arith
 
 pub not_both : (a b : Bool) → (not a && not b) ≡ false → a ≡ false → b ≡ true
-not_both true b is none = absurd (false≢true (sym none))
-not_both false true is none = refl
-not_both false false is none = absurd (false≢true (sym is))
+not_both a b h2 h3 = search arith
 
 -- two of which one has a suite that the other has, and one of both exclusive, clash
 pub clash_of : (asked others : List (ℕ × LockMode)) (one other : ℕ × LockMode) → Contains asked one → Contains others other → clashes one other ≡ true → clash asked others ≡ true
-clash_of asked others one other has there is =
-    has_any (λ one. list_any (clashes one) others) asked one (has_from asked one has) (has_any (clashes one) others other (has_from others other there) is)
+clash_of asked others one other has there is = search (has_any, has_from, arith)
 
 -- ---- where all servers are up they stay up
 
@@ -46,9 +36,7 @@ run_after given events so_far event = ap (run given) (sym (append_assoc events s
 
 pub free_where_up : (servers : List State) → list_all (λ (st : State). length st.locks == 0) servers ≡ true → list_all (λ (st : State). not st.up || (length st.locks == 0)) servers ≡ true
 free_where_up [] all = refl
-free_where_up (st ∷ servers) all =
-    let parts = and_parts (length st.locks == 0) (list_all (λ (st : State). length st.locks == 0) servers) all in
-    and_from (not st.up || (length st.locks == 0)) (list_all (λ (st : State). not st.up || (length st.locks == 0)) servers) (or_right (not st.up) (length st.locks == 0) parts.0) (free_where_up servers parts.1)
+free_where_up (st ∷ servers) all = search (and_parts, and_from, or_right, free_where_up servers, arith)
 
 module _ (given : Opening) (events later : List Event) (go : GoSideBySide given events later) where
   up_first : AllUp given go.can.accepted (run given (events ++ []))

@@ -1,11 +1,11 @@
 -- A transaction that nobody meets where all servers are up: what it is replied is neither Busy, Down nor Lost, and so it does not end undecided.
-use Rattle.law_run_recovers.proofs.Vocabulary.{◌≡◌, ◌⊎◌, inl, inr, ⊎_elim, ℕ, true, false, cond, List, [], ◌∷◌, ◌++◌, append_assoc, Some, None, is_some, Ok, Err, refl, sym, ap, subst, ◌∙◌, Contains, false≢true, and_from, none-some}
-use Rattle.law_run_recovers.proofs.Vocabulary.{same_Some, Identity, Opening, LockMode, Op, Request, Reply, Verdict, is_busy, is_down, is_lost, is_prepared, State, reply_of, reply_up, reply_down, verdict_of, Asked, mode_asked, Cache, Cause}
-use Rattle.law_run_recovers.proofs.Vocabulary.{Undecided, Transaction, Replied, Suites, Task, Phase, Gathering, Fetching, Preparing, Deciding, Finishing, asked_for, given_in, decision_of, request_in, Agent, fixed_of, begin, forget, take}
-use Rattle.law_run_recovers.proofs.Vocabulary.{after_all, is_decide, asks_same, after-append, EndedJob, Event, Begin, Step, Actor, server_at, actor_at, step, run, CanBe, can_front, valid_back, all_consistent, up_valid, HasValidVotes}
-use Rattle.law_run_recovers.proofs.Vocabulary.{copy_valid, cache_valid, asks_for, is_open_way, is_open_at, up_in, is_up, world_after, GoesUnmet, hinders_itself, GoesAmongLocks, EndsThen}
+use Rattle.law_run_recovers.proofs.Vocabulary.{◌≡◌, ◌⊎◌, inl, inr, ⊎_elim, ℕ, true, false, cond, List, [], ◌∷◌, ◌++◌, append_assoc, Some, None, is_some, refl, sym, ap, subst, ◌∙◌, Contains, false≢true, and_from, none-some, arith, same_Some, Identity}
+use Rattle.law_run_recovers.proofs.Vocabulary.{Opening, LockMode, Op, Request, Reply, Verdict, is_busy, is_down, is_lost, is_prepared, State, reply_of, verdict_of, Asked, mode_asked, Cache, Cause, Undecided, Transaction, Replied, Suites, Task, Phase}
+use Rattle.law_run_recovers.proofs.Vocabulary.{Gathering, Fetching, Preparing, Deciding, Finishing, asked_for, given_in, decision_of, request_in, Agent, fixed_of, begin, forget, take, after_all, is_decide, asks_same, after-append, EndedJob, Event}
+use Rattle.law_run_recovers.proofs.Vocabulary.{Begin, Step, Actor, server_at, actor_at, step, run, CanBe, can_front, valid_back, all_consistent, up_valid, HasValidVotes, copy_valid, cache_valid, asks_for, is_open_way, is_open_at, up_in, is_up}
+use Rattle.law_run_recovers.proofs.Vocabulary.{world_after, GoesUnmet, hinders_itself, GoesAmongLocks, EndsThen}
 use Rattle.rep_core.proofs.FittingReplies.{reply_fits}
-use Rattle.law_run_alone.proofs.Exchanged.{TellsValid, IsFree, Since, since_begin, since_forget, since_take, never_undecided}
+use Rattle.law_run_alone.proofs.Exchanged.{IsFree, Since, since_begin, since_forget, since_take, never_undecided}
 use Rattle.rep_core.specs.declared.request.Request.TheVariants as request
 use Rattle.rep_core.specs.declared.reply.Reply.TheVariants as reply
 use Rattle.rep_core.specs.declared.reply.Verdict.TheVariants as verdict
@@ -37,16 +37,13 @@ pub record IsKind (asked : Request) (said : Reply) : Type 0 where
   pub decides : is_decide asked ≡ true → said ≡ reply.Verdict verdict.Aborted → ⊥
 
 given_kind : (asked : Request) (said : Reply) → is_some (given_in said) ≡ true → IsKind asked said
-given_kind asked (reply.Given dver content) is = record { busy = refl; down = refl; kept = refl; decides = λ decide is. cc }
-given_kind asked other is = absurd (false≢true is)
+given_kind asked said h2 = search arith
 
 prepared_kind : (asked : Request) (said : Reply) → is_prepared said ≡ true → IsKind asked said
-prepared_kind asked reply.Prepared is = record { busy = refl; down = refl; kept = refl; decides = λ decide is. cc }
-prepared_kind asked other is = absurd (false≢true is)
+prepared_kind asked said h2 = search arith
 
 not_aborted : (task : Task) (outcome : doing.Proposal) → verdict_of (decision_of task outcome) ≡ verdict.Aborted → ⊥
-not_aborted task (Ok granted) is = cc
-not_aborted task (Err refusal) is = cc
+not_aborted task outcome h2 = search arith
 
 abbrev verdict_said : Reply → Verdict
 verdict_said (reply.Verdict v) = v
@@ -56,9 +53,7 @@ verdict_kind : (asked : Request) (v : Verdict) → (v ≡ verdict.Aborted → �
 verdict_kind asked v not = record { busy = refl; down = refl; kept = refl; decides = λ decide is. not (ap verdict_said is) }
 
 finish_kind : (st : State) (t : ℕ) (v : Verdict) → st.up ≡ true → IsKind (request.Finish t v) (reply_of st (request.Finish t v))
-finish_kind st t v up =
-    subst (λ b. IsKind (request.Finish t v) (cond b (reply_up st (request.Finish t v)) (reply_down (request.Finish t v)))) (sym up)
-    (record { busy = refl; down = refl; kept = refl; decides = λ decide is. false≢true decide })
+finish_kind st t v up = search arith
 
 module _ (given : Opening) (events later : List Event) (agent t : ℕ) (caller : Identity) (site : ℕ) (ops : List Op) (actor : Actor) (unmet : GoesUnmet given events later agent t caller site ops actor)
     (near : (server : ℕ) → unmet.near server ≡ true)
@@ -101,10 +96,7 @@ module _ (given : Opening) (events later : List Event) (agent t : ℕ) (caller :
 
     lock_kind : (z : ℕ) (question : Asked) → Contains (asks_for given events t caller ops) (z, mode_asked question) → (other : Reply)
         → Answers (fixed_of given) (run given events) (sight given events later agent t caller site ops actor goes) z question took.asked.0 other → IsKind took.asked.1 other
-    lock_kind z question has (reply.Held prefix dver) right = record { busy = refl; down = refl; kept = refl; decides = λ decide is. cc }
-    lock_kind z question has (reply.Busy holder prepared) right = absurd (false≢true (sym right.0 ∙ open_so took.asked.0 z (mode_asked question) has first_up))
-    lock_kind z question has reply.Down right = absurd (false≢true (sym right.0 ∙ open_so took.asked.0 z (mode_asked question) has first_up))
-    lock_kind z question has other right = absurd right
+    lock_kind z question h2 other h4 = search (false≢true, open_so, first_up, arith)
 
     kind_in : (now : Cache) (suites : Suites) (phase : Phase) → PhaseIn given events later agent t caller site ops actor goes suites now phase → request_in (fixed_of given) its_task suites phase ≡ Some (took.asked.0, took.asked.1)
         → RightFor (fixed_of given) (run given events) (sight given events later agent t caller site ops actor goes) its_task phase took.asked.0 took.asked.1 said → IsKind took.asked.1 said
@@ -117,13 +109,9 @@ module _ (given : Opening) (events later : List Event) (agent t : ℕ) (caller :
         let asks = asked_by its_task z at.suite.collector took.asked.0 took.asked.1 (sym (ap (asked_for its_task z) at.there) ∙ is) in
         lock_kind z asks.question (widen_asks given events later agent t caller site ops actor goes took.asked.0 took.asked.1 now suites z left granted at asks) said (right asks.question asks.asked_is)
     kind_in now suites (Preparing left outcome) at is right = prepared_kind took.asked.1 said right
-    kind_in now suites (Deciding outcome) at is right = ⊎_elim
-        (λ up. subst (IsKind took.asked.1) (sym up.1) (verdict_kind took.asked.1 (verdict_of (decision_of its_task outcome)) (not_aborted its_task outcome)))
-        (λ down. absurd (false≢true (sym down.0 ∙ first_up)))
-        right
+    kind_in now suites (Deciding outcome) at is right = search (verdict_kind, not_aborted, false≢true, first_up, arith)
     kind_in now suites (Finishing [] v ended) at is right = absurd (none-some (took.asked.0, took.asked.1) is)
-    kind_in now suites (Finishing (first ∷ left) v ended) at is right =
-        subst (λ asked. IsKind asked (reply_of took.st asked)) (asks_same first took.asked.0 (request.Finish its_task.t v) took.asked.1 is) (finish_kind took.st its_task.t v st_up)
+    kind_in now suites (Finishing (first ∷ left) v ended) at is right = search (asks_same, finish_kind, st_up, arith)
 
     pub its_kind : IsKind took.asked.1 (reply_of took.st took.asked.1)
     its_kind =
@@ -146,8 +134,7 @@ module _ (given : Opening) (events later : List Event) (agent t : ℕ) (caller :
       down = its_kind.down;
       kept = its_kind.kept;
       fit = reply_fits took.st took.asked.1 (all_consistent given (events ++ Begin agent (Transaction caller site ops) ∷ so_far) took.asked.0 took.st at_run).sound;
-      valid = subst (λ b. TellsValid (cond b (reply_up took.st took.asked.1) (reply_down took.asked.1))) (sym st_up)
-          (up_valid took.st (copy_valid given (events ++ Begin agent (Transaction caller site ops) ∷ so_far) can_here took.asked.0 took.st at_run) took.asked.1);
+      valid = search (st_up, up_valid, copy_valid, can_here, at_run, arith);
       decides = its_kind.decides;
       stood = λ stands. refl;
     }

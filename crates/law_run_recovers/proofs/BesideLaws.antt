@@ -1,8 +1,8 @@
 -- The laws of transactions side by side.
-use Rattle.law_run_recovers.proofs.Vocabulary.{◌≡◌, ℕ, Bool, true, false, List, [], ◌∷◌, ◌++◌, append-nil, append_assoc, Option, Some, None, is_some, Result, refl, sym, ap, subst, ◌∙◌, same_Some, Opening, Answer, Refusal, State, Cause}
-use Rattle.law_run_recovers.proofs.Vocabulary.{SideBySideEndByVotesAt, Unavailable, HomeDown, Ending, Undecided, Transaction, home_of, fixed_of, EndedJob, Served, Event, Begin, Step, server_at, actor_at, step, run, table_of, CanBe, Begun}
-use Rattle.law_run_recovers.proofs.Vocabulary.{GoSideBySide, GoSideBySideWhileDown, SideBySideEndWhileDownAt, Demand, demands, first_short, ending_by, ending_of, answer_on, EndsThen, is_up, is_running, world_after, GoesUnmet, Always}
-use Rattle.law_run_recovers.proofs.Vocabulary.{SideBySideAreDecidedAt, SideBySideAreToldFreelyAt, SideBySideAreUnmetAt, SideBySideEndInTimeAt}
+use Rattle.law_run_recovers.proofs.Vocabulary.{◌≡◌, ℕ, Bool, true, List, [], ◌∷◌, ◌++◌, append-nil, append_assoc, Option, Some, is_some, Result, refl, sym, ap, subst, ◌∙◌, same_Some, Opening, Answer, Refusal, State, Cause, arith}
+use Rattle.law_run_recovers.proofs.Vocabulary.{SideBySideEndByVotesAt, Ending, Undecided, Transaction, home_of, fixed_of, EndedJob, Served, Event, Begin, Step, server_at, actor_at, step, run, table_of, CanBe, Begun, GoSideBySide}
+use Rattle.law_run_recovers.proofs.Vocabulary.{GoSideBySideWhileDown, SideBySideEndWhileDownAt, Demand, demands, first_short, ending_by, ending_of, answer_on, EndsThen, is_up, is_running, world_after, GoesUnmet, Always, SideBySideAreDecidedAt}
+use Rattle.law_run_recovers.proofs.Vocabulary.{SideBySideAreToldFreelyAt, SideBySideAreUnmetAt, SideBySideEndInTimeAt}
 use Rattle.law_run_recovers.proofs.Keeps.{step_asks}
 use Rattle.law_run_recovers.proofs.StepsServed.{own_took}
 use Rattle.law_run_recovers.proofs.UnmetLaws.{unmet_by_votes}
@@ -14,9 +14,7 @@ use Rattle.law_run_recovers.proofs.BesideSides.{sides_at}
 
 -- what does not end undecided is answered
 answered_as : (ended : Ending) (found : Option Demand) (up : Bool) (answer : Result (List Answer) Refusal) → ((cause : Cause) → ended ≡ Undecided cause → ⊥) → ended ≡ ending_by found up answer → ended ≡ ending_of answer
-answered_as ended (Some short) up answer not is = absurd (not (Unavailable short.suite short.got short.needed) is)
-answered_as ended None true answer not is = is
-answered_as ended None false answer not is = absurd (not HomeDown is)
+answered_as ended found up answer h4 h5 = search arith
 
 -- ---- where servers may be down
 
@@ -36,8 +34,7 @@ side_by_side_are_unmet given events later go one actor there =
     subst (GoesUnmet given (events ++ one.before) one.after one.agent one.t one.caller one.site one.ops) (same_Some unmet.actor actor (sym unmet.there ∙ there)) (goes given events later go one)
 
 pub side_by_side_end_by_votes : Always SideBySideEndByVotesAt
-side_by_side_end_by_votes given events later go one actor there job ends =
-    unmet_by_votes given (events ++ one.before) one.after one.agent one.t one.caller one.site one.ops actor (side_by_side_are_unmet given events later go one actor there) job ends
+side_by_side_end_by_votes given events later go one actor there job ends = search (unmet_by_votes, side_by_side_are_unmet, arith)
 
 pub side_by_side_end_while_down : Always SideBySideEndWhileDownAt
 side_by_side_end_while_down given events later go one few =

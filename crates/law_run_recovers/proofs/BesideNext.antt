@@ -1,8 +1,8 @@
 -- Transactions side by side: one event more.
-use Rattle.law_run_recovers.proofs.Vocabulary.{◌≡◌, ◌≢◌, ⊎_elim, ℕ, Bool, true, false, cond, List, [], ◌∷◌, ◌++◌, append-nil, append_assoc, Option, Some, None, is_some, refl, sym, ap, subst, ◌∙◌, ◌==◌, ◌&&◌, ◌||◌, not, option_map, Contains}
-use Rattle.law_run_recovers.proofs.Vocabulary.{false≢true, and_parts, and_from, eqb-true, eq-eqb, same_Some, Opening, LockMode, is_exclusive, Lock, in_the_way, conflicts, State, Has, find_some, Job, Transaction, fixed_of, Served, Event}
-use Rattle.law_run_recovers.proofs.Vocabulary.{Begin, Step, Lack, World, server_at, actor_at, has_no_job, step, run, names, begins_job, MayAsk, asks_servers, clashes, clash, Begun, its_asks, spoils, GoSideBySideWhileDown, up_in, is_up}
-use Rattle.law_run_recovers.proofs.Vocabulary.{asks_for, is_way_met, way_in, in_its_way, GoesAmongLocks, locks_in, locks_at, is_running, is_telling, takes, up_and, of_up, robs, hinders_itself, StandsOpen, everywhere, not-true}
+use Rattle.law_run_recovers.proofs.Vocabulary.{◌≡◌, ◌≢◌, ⊎_elim, ℕ, Bool, true, false, cond, List, [], ◌∷◌, ◌++◌, append-nil, append_assoc, Option, Some, None, refl, sym, ap, subst, ◌∙◌, ◌==◌, ◌&&◌, ◌||◌, option_map, Contains, arith, false≢true}
+use Rattle.law_run_recovers.proofs.Vocabulary.{and_from, eqb-true, eq-eqb, Opening, LockMode, is_exclusive, Lock, in_the_way, conflicts, State, Has, find_some, Transaction, fixed_of, Served, Event, Begin, Step, World, server_at, actor_at, has_no_job}
+use Rattle.law_run_recovers.proofs.Vocabulary.{step, run, names, MayAsk, asks_servers, clashes, clash, Begun, its_asks, spoils, GoSideBySideWhileDown, up_in, is_up, asks_for, is_way_met, way_in, in_its_way, GoesAmongLocks, locks_in, locks_at}
+use Rattle.law_run_recovers.proofs.Vocabulary.{is_running, takes, up_and, of_up, robs, hinders_itself, StandsOpen, everywhere}
 use Rattle.law_run_recovers.proofs.Keeps.{step_asks}
 use Rattle.law_run_recovers.proofs.Owned.{AllOwned, MayLock, owned_stays}
 use Rattle.law_run_recovers.proofs.Sides.{compared, names_one, takes_named}
@@ -15,21 +15,13 @@ use Rattle.law_run_recovers.proofs.Open.{busy_of}
 
 -- where a lock conflicts two clash
 conflict_parts : (t z : ℕ) (mode : LockMode) (lock : Lock) → conflicts t z mode lock ≡ true → (lock.suite ≡ z) × ((lock.t == t) ≡ false) × ((is_exclusive mode || is_exclusive lock.mode) ≡ true)
-conflict_parts t z mode lock is =
-    let parts = and_parts ((lock.suite == z) && not (lock.t == t)) (is_exclusive mode || is_exclusive lock.mode) is in
-    let more = and_parts (lock.suite == z) (not (lock.t == t)) parts.0 in
-    (eqb-true lock.suite z more.0, not-true (lock.t == t) more.1, parts.1)
+conflict_parts t z mode lock is = search arith
 
 or_same : (a b : Bool) → (a || b) ≡ true → (b || a) ≡ true
-or_same true true is = refl
-or_same true false is = refl
-or_same false true is = refl
-or_same false false is = is
+or_same a b h2 = search arith
 
 pub clash_back : (a b : ℕ × LockMode) → clashes a b ≡ true → clashes b a ≡ true
-clash_back a b is =
-    let parts = and_parts (a.0 == b.0) (is_exclusive a.1 || is_exclusive b.1) is in
-    and_from (b.0 == a.0) (is_exclusive b.1 || is_exclusive a.1) (eq-eqb b.0 a.0 (sym (eqb-true a.0 b.0 parts.0))) (or_same (is_exclusive a.1) (is_exclusive b.1) parts.1)
+clash_back a b is = search arith
 
 module _ (given : Opening) (events later : List Event) (go : GoSideBySideWhileDown given events later) (so_far rest : List Event) (event : Event) (split : later ≡ so_far ++ event ∷ rest) (sides : Sides given events later go so_far) where
   abbrev w : World
@@ -69,44 +61,19 @@ module _ (given : Opening) (events later : List Event) (go : GoSideBySideWhileDo
             by false is = none st.up
               where
                 none : (a : Bool) → (a && false) ≡ false
-                none true = refl
-                none false = refl
+                none a = search arith
 
         of : (found : Option Served) → (step (fixed_of given) (run given (events ++ so_far)) (Step i)).done.served ≡ found → of_up (takes one.t) (run given (events ++ so_far)) found ≡ false
-        of None served = refl
-        of (Some what) served = at_server what served (server_at w what.server)
+        of found h1 = search (at_server, arith)
 
     free_hand : (hinders_itself given one.agent (run given (events ++ so_far)) event || robs given one.agent one.t (run given (events ++ so_far)) event) ≡ false
-    free_hand = of event calm
-      where
-        of : (event : Event) → spoils given (run given (events ++ so_far)) event ≡ false → (hinders_itself given one.agent (run given (events ++ so_far)) event || robs given one.agent one.t (run given (events ++ so_far)) event) ≡ false
-        of (Lack i why) quiet = by (i == one.agent) refl
-          where
-            by : (b : Bool) → (i == one.agent) ≡ b → (b || false) ≡ false
-            by true same = absurd (false≢true (sym quiet ∙ ap not (ap (λ i. has_no_job (actor_at w i)) (eqb-true i one.agent same) ∙ has_job)))
-            by false apart = refl
-        of (Step i) quiet = by (i == one.agent) refl
-          where
-            served : Bool
-            served = is_some (step (fixed_of given) w (Step i)).done.served
-
-            by : (b : Bool) → (i == one.agent) ≡ b
-                → (((i == one.agent) && not (is_some (step (fixed_of given) (run given (events ++ so_far)) (Step i)).done.served))
-                || (not (i == one.agent) && not (is_telling (run given (events ++ so_far)) one.agent) && of_up (takes one.t) (run given (events ++ so_far))
-                (step (fixed_of given) (run given (events ++ so_far)) (Step i)).done.served)) ≡ false
-            by true same =
-                own_served (i == one.agent) (is_some (step (fixed_of given) w (Step i)).done.served) (not (is_telling w one.agent)) (of_up (takes one.t) w (step (fixed_of given) w (Step i)).done.served) same
-                (not_both (has_no_job (actor_at w i)) (is_some (step (fixed_of given) w (Step i)).done.served) quiet (ap (λ i. has_no_job (actor_at w i)) (eqb-true i one.agent same) ∙ has_job))
-            by false apart =
-                others_none (i == one.agent) (is_some (step (fixed_of given) w (Step i)).done.served) (not (is_telling w one.agent)) (of_up (takes one.t) w (step (fixed_of given) w (Step i)).done.served) apart (not_robbed i apart)
-        of other quiet = refl
+    free_hand = search (calm, false≢true, eqb-true, has_job, own_served, not_both, others_none, not_robbed, arith)
 
   -- in the words of its own world
   pub its_hand : (one : Begun given events so_far) → is_running (world_then given events one.before one.agent one.t one.caller one.site one.ops one.after) one.agent one.t ≡ true
       → (hinders_itself given one.agent (world_then given events one.before one.agent one.t one.caller one.site one.ops one.after) event || robs given one.agent one.t
       (world_then given events one.before one.agent one.t one.caller one.site one.ops one.after) event) ≡ false
-  its_hand one =
-      subst (λ w. is_running w one.agent one.t ≡ true → (hinders_itself given one.agent w event || robs given one.agent one.t w event) ≡ false) (sym (last_is given events later go so_far one)) (free_hand one)
+  its_hand one = search (last_is, free_hand, arith)
 
   -- ---- each lock is of one that runs still
 
@@ -173,11 +140,7 @@ module _ (given : Opening) (events later : List Event) (go : GoSideBySideWhileDo
 
   -- what came before the second is of those so far
   front_so : (other : BegunNow) → (more : List Event) × (so_far ≡ other.before ++ more)
-  front_so other =
-      ⊎_elim
-      (λ here. ([], sym here.0 ∙ sym (append-nil other.before)))
-      (λ old. (Begin other.agent (Transaction other.caller other.site other.ops) ∷ old.0, old.1))
-      (parted so_far event other.before (Begin other.agent (Transaction other.caller other.site other.ops)) other.after other.parts)
+  front_so other = search (append-nil, parted, arith)
 
   first_apart : (one other : BegunNow) (between : List Event) → other.before ≡ one.before ++ Begin one.agent (Transaction one.caller one.site one.ops) ∷ between
       → is_running (run given (events ++ (so_far ++ event ∷ []))) one.agent one.t ≡ true → clash (its_asks given events (so_far ++ event ∷ []) one) (its_asks given events (so_far ++ event ∷ []) other) ≡ false
@@ -195,11 +158,7 @@ module _ (given : Opening) (events later : List Event) (go : GoSideBySideWhileDo
 
   -- the number is one transaction's
   same_one : (one other : BegunNow) → one.before ≡ other.before → Begin one.agent (Transaction one.caller one.site one.ops) ≡ Begin other.agent (Transaction other.caller other.site other.ops) → one.t ≡ other.t
-  same_one one other before begin =
-      ap (λ (pair : ℕ × Job). pair.0)
-      (same_Some (one.t, Transaction one.caller one.site one.ops) (other.t, Transaction other.caller other.site other.ops)
-      (sym one.begins ∙ ap (λ xs. begins_job given (run given (events ++ xs)) (Begin one.agent (Transaction one.caller one.site one.ops))) before
-      ∙ ap (begins_job given (run given (events ++ other.before))) begin ∙ other.begins))
+  same_one one other before begin = search arith
 
   -- one that runs wants nothing that another has that runs
   never_clash : (one other : BegunNow) → one.t ≢ other.t → is_running (run given (events ++ (so_far ++ event ∷ []))) one.agent one.t ≡ true → is_running (run given (events ++ (so_far ++ event ∷ []))) other.agent other.t ≡ true
@@ -243,6 +202,4 @@ module _ (given : Opening) (events later : List Event) (go : GoSideBySideWhileDo
   pub stands_then : (other : BegunNow) → is_running (world_then given events other.before other.agent other.t other.caller other.site other.ops other.after) other.agent other.t ≡ true
       → StandsOpen (run given (events ++ other.before)) (world_then given events other.before other.agent other.t other.caller other.site other.ops other.after) other.t
       (asks_for given (events ++ other.before) other.t other.caller other.ops) everywhere
-  stands_then other =
-      subst (λ w. is_running w other.agent other.t ≡ true → StandsOpen (run given (events ++ other.before)) w other.t (asks_for given (events ++ other.before) other.t other.caller other.ops) everywhere)
-      (sym (last_is given events later go (so_far ++ event ∷ []) other)) (stands_now other)
+  stands_then other = search (stands_now other, last_is, arith)

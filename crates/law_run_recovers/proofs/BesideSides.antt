@@ -1,6 +1,6 @@
 -- Transactions side by side: so nobody meets any, at each moment.
-use Rattle.law_run_recovers.proofs.Vocabulary.{◌≡◌, ⊎_elim, suc, true, List, [], ◌∷◌, ◌++◌, append-nil, sym, ap, subst, ◌∙◌, arith, length, ◌==◌, ◌||◌, not, eqb-true, Opening, Lock, State, Has, all_at, Transaction, Event, Begin, server_at}
-use Rattle.law_run_recovers.proofs.Vocabulary.{run, at_has, Begun, GoSideBySideWhileDown, asks_for, is_running, StandsOpen, everywhere}
+use Rattle.law_run_recovers.proofs.Vocabulary.{◌≡◌, ⊎_elim, suc, true, List, [], ◌∷◌, ◌++◌, append-nil, sym, ap, subst, ◌∙◌, arith, length, ◌==◌, ◌||◌, not, eqb-true, Opening, Lock, State, Has, all_at, Transaction, Event, Begin, server_at, run}
+use Rattle.law_run_recovers.proofs.Vocabulary.{at_has, Begun, GoSideBySideWhileDown, asks_for, is_running, StandsOpen, everywhere}
 use Rattle.law_run_recovers.proofs.Found.{or_rest}
 use Rattle.law_run_recovers.proofs.AmongCourse.{parted, nil_cons}
 use Rattle.law_run_recovers.proofs.BesideUnmet.{IsUnmet, world_then, unmet_more, nil_front, begins_there}
@@ -14,20 +14,7 @@ module _ (given : Opening) (events later : List Event) (go : GoSideBySideWhileDo
     unmet_now other = ⊎_elim new old (parted so_far event other.before (Begin other.agent (Transaction other.caller other.site other.ops)) other.after other.parts)
       where
         new : ((other.before ≡ so_far) × (Begin other.agent (Transaction other.caller other.site other.ops) ≡ event) × (other.after ≡ [])) → IsUnmet given events other.before other.agent other.t other.caller other.site other.ops other.after
-        new here =
-            let there = begins_there given (run given (events ++ other.before)) other.agent other.t (Transaction other.caller other.site other.ops) other.begins in
-            record {
-              actor = there.0;
-              there = there.1;
-              begins = other.begins;
-              unmet = λ mid more is.
-                  subst (λ mid. is_running (world_then given events other.before other.agent other.t other.caller other.site other.ops mid) other.agent other.t ≡ true
-                  → StandsOpen (run given (events ++ other.before)) (world_then given events other.before other.agent other.t other.caller other.site other.ops mid) other.t
-                  (asks_for given (events ++ other.before) other.t other.caller other.ops) everywhere)
-                  (here.2 ∙ sym (nil_front mid more (sym here.2 ∙ is)))
-                  (stands_then given events later go so_far rest event split sides other);
-              free_hand = λ mid more one is. absurd (nil_cons mid one more (sym here.2 ∙ is));
-            }
+        new here = search (begins_there, world_then, nil_front, stands_then, nil_cons, arith)
 
         old : ((front : List Event) × (so_far ≡ other.before ++ Begin other.agent (Transaction other.caller other.site other.ops) ∷ front) × (other.after ≡ front ++ event ∷ []))
             → IsUnmet given events other.before other.agent other.t other.caller other.site other.ops other.after
@@ -41,10 +28,7 @@ module _ (given : Opening) (events later : List Event) (go : GoSideBySideWhileDo
             was.2 (stands_then given events later go so_far rest event split sides other)))
 
     sides_next : Sides given events later go (so_far ++ event ∷ [])
-    sides_next = record {
-      unmet = unmet_now;
-      locks = locks_now given events later go so_far rest event split sides;
-    }
+    sides_next = search (unmet_now, locks_now, arith)
 
   -- ---- all along
 

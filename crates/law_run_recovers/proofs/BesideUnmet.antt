@@ -1,7 +1,6 @@
 -- A transaction of some side by side: what it takes that nobody meets it up to a moment, and up to the next.
-use Rattle.law_run_recovers.proofs.Vocabulary.{◌≡◌, ◌⊎◌, inl, inr, ⊎_elim, ℕ, true, false, List, [], ◌∷◌, ◌++◌, append-nil, append_assoc, Option, Some, None, refl, sym, ap, subst, ◌∙◌, ◌||◌, none-some, Identity, Opening, Op, Has, Job}
-use Rattle.law_run_recovers.proofs.Vocabulary.{Transaction, fixed_of, Event, Begin, Actor, World, opening, actor_at, run, ended, begins_now, CanBe, begins_job, with_job, asks_for, is_running, world_after, robs, hinders_itself, StandsOpen}
-use Rattle.law_run_recovers.proofs.Vocabulary.{GoesUnmet, GoesAmongLocks, everywhere, Begun, same_Some}
+use Rattle.law_run_recovers.proofs.Vocabulary.{◌≡◌, ◌⊎◌, inl, inr, ⊎_elim, ℕ, true, false, List, [], ◌∷◌, ◌++◌, append-nil, append_assoc, Some, refl, sym, ap, subst, ◌∙◌, ◌||◌, Identity, Opening, Op, Has, Job, arith, Transaction, fixed_of, Event}
+use Rattle.law_run_recovers.proofs.Vocabulary.{Begin, Actor, World, opening, actor_at, run, ended, CanBe, begins_job, asks_for, is_running, world_after, robs, hinders_itself, StandsOpen, GoesUnmet, GoesAmongLocks, everywhere, Begun}
 use Rattle.law_run_recovers.proofs.Keeps.{after_append}
 use Rattle.law_run_recovers.proofs.Open.{unmet_is_among_locks}
 use Rattle.law_run_recovers.proofs.Sides.{ended_still, ended_runs_not}
@@ -15,19 +14,11 @@ nil_front (x ∷ xs) ys is = cc
 
 -- who begins is there
 pub begins_there : (given : Opening) (w : World) (i t : ℕ) (job : Job) → begins_job given w (Begin i job) ≡ Some (t, job) → (actor : Actor) × (actor_at w i ≡ Some actor)
-begins_there given w i t job = of (actor_at w i) refl
-  where
-    of : (found : Option Actor) → actor_at w i ≡ found → with_job job (begins_now (fixed_of given) i job found) ≡ Some (t, job) → (actor : Actor) × (actor_at w i ≡ Some actor)
-    of None at is = absurd (none-some (t, job) is)
-    of (Some actor) at is = (actor, at)
+begins_there given w i t job = search arith
 
 -- the job that is begun is the event's
 pub job_same : (given : Opening) (w : World) (k : ℕ) (job : Job) (pair : ℕ × Job) → begins_job given w (Begin k job) ≡ Some pair → job ≡ pair.1
-job_same given w k job pair = of (begins_now (fixed_of given) k job (actor_at w k))
-  where
-    of : (found : Option ℕ) → with_job job found ≡ Some pair → job ≡ pair.1
-    of None is = absurd (none-some pair is)
-    of (Some u) is = ap (λ (pair : ℕ × Job). pair.1) (same_Some (u, job) pair is)
+job_same given w k job pair = search arith
 
 -- one that began in a front began in all
 abbrev pub onward : (given : Opening) (events so_far more : List Event) → Begun given events so_far → Begun given events (so_far ++ more)
@@ -89,11 +80,7 @@ module _ (given : Opening) (events before : List Event) (agent t : ℕ) (caller 
         where
           of : ((mid ≡ after) × (one ≡ event) × (rest ≡ [])) ⊎ ((front : List Event) × (after ≡ mid ++ one ∷ front) × (rest ≡ front ++ event ∷ []))
               → (hinders_itself given agent (world_then mid) one || robs given agent t (world_then mid) one) ≡ false
-          of (inl here) =
-              subst (λ mid. (hinders_itself given agent (world_then mid) one || robs given agent t (world_then mid) one) ≡ false) (sym here.0)
-              (subst (λ one. (hinders_itself given agent (world_then after) one || robs given agent t (world_then after) one) ≡ false) (sym here.1)
-              (calm (ap (λ mid. is_running (world_then mid) agent t) (sym here.0) ∙ running)))
-          of (inr old) = u.free_hand mid old.0 one old.1 running
+          of h0 = search arith
 
   module _ (after : List Event) (u : IsUnmet after) (can : CanBe given (events ++ (before ++ Begin agent (Transaction caller site ops) ∷ after))) where
     abbrev pub goes_of : GoesUnmet given (events ++ before) after agent t caller site ops u.actor
@@ -127,5 +114,4 @@ module _ (given : Opening) (events before : List Event) (agent t : ℕ) (caller 
 
     pub ran_then : (mid rest : List Event) → after ≡ mid ++ rest → (more : List Event) → is_running (run given ((events ++ (before ++ Begin agent (Transaction caller site ops) ∷ mid)) ++ more)) agent t ≡ true
         → is_running (run given (events ++ (before ++ Begin agent (Transaction caller site ops) ∷ mid))) agent t ≡ true
-    ran_then mid rest split more running =
-        ap (λ w. is_running w agent t) (sym (then_is mid)) ∙ course_runs given (events ++ before) after agent t caller site ops u.actor steady_of mid (ran mid rest split more running)
+    ran_then mid rest split more running = search (then_is, course_runs, ran, arith)

@@ -1,7 +1,7 @@
 -- Two users go side by side, by computation.
-use Rattle.law_run_recovers.proofs.Vocabulary.{◌≡◌, ◌⊎◌, inl, inr, ⊎_elim, ℕ, Bool, true, false, List, [], ◌∷◌, ◌++◌, Some, refl, sym, ap, ◌∙◌, ◌&&◌, list_all, false≢true, and_parts, same_Some, LockMode, Job, Transaction, fixed_of, owner}
-use Rattle.law_run_recovers.proofs.Vocabulary.{a, Event, Begin, Step, World, opening, after, run, EventGivesValidVotes, CanBe, with_caches, some_run_revokes, begins_job, clash, Begun, its_asks, two_made, two_write, first_down}
-use Rattle.law_run_recovers.proofs.Vocabulary.{SomeRunsGoSideBySide, b, puts, asks_for, is_running, is_up}
+use Rattle.law_run_recovers.proofs.Vocabulary.{◌≡◌, ◌⊎◌, inl, inr, ⊎_elim, ℕ, Bool, true, false, List, [], ◌∷◌, ◌++◌, Some, refl, sym, ap, ◌∙◌, ◌&&◌, list_all, false≢true, and_parts, same_Some, LockMode, Job, Transaction, fixed_of, owner, a, Event}
+use Rattle.law_run_recovers.proofs.Vocabulary.{Begin, Step, World, opening, after, run, EventGivesValidVotes, CanBe, with_caches, some_run_revokes, begins_job, clash, Begun, its_asks, two_made, two_write, first_down, SomeRunsGoSideBySide, b, puts}
+use Rattle.law_run_recovers.proofs.Vocabulary.{asks_for, is_running, is_up}
 use Rattle.law_run_recovers.proofs.AmongCourse.{head_or, tail_or}
 use Rattle.law_run_recovers.proofs.Keeps.{after_append}
 use Rattle.law_run_recovers.proofs.LawsWorked.{holds_at, none_spoils_it, same_ups, up_same}

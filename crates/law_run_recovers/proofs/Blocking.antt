@@ -1,9 +1,9 @@
 -- What blocks a suite after sweeps: whoever is down, and whoever has a lock on it in doubt.
-use Rattle.law_run_recovers.proofs.Vocabulary.{◌≡◌, ◌⊎◌, inl, inr, ⊎_elim, ℕ, ◌+◌, ◌<◌, ◌≤◌, Bool, true, false, cond, List, [], ◌∷◌, ◌++◌, Option, Some, None, is_some, refl, sym, ap, subst, ◌∙◌, arith, ◌%◌, ◌/◌, ◌==◌, ◌&&◌, ◌||◌, not}
-use Rattle.law_run_recovers.proofs.Vocabulary.{nat_lt, nat_le, option_map, Contains, mod-lt, false≢true, and_parts, and_from, eqb-true, eq-eqb, nat_tests, All-contains, Representative, Configuration, votes_in, total_votes, IsValid, Opening}
-use Rattle.law_run_recovers.proofs.Vocabulary.{LockMode, Shared, Exclusive, Lock, Request, Stamped, conflicts, in_the_way, has_prepared, State, served, is_full, answer_of, contains_from, has_filter, any_has, has_any, find_some, needed_of}
-use Rattle.law_run_recovers.proofs.Vocabulary.{has_vote, Fixed, home_of, fixed_of, Event, Crash, World, server_at, operates, operated, opening, step, run, same_or, puts_in, all_up, up_in, is_up, locks_in, locks_at, is_in_doubt, in_doubt}
-use Rattle.law_run_recovers.proofs.Vocabulary.{way_in, is_open_way, is_open_at, Want, sweeps, blocks, SweepsAll, can_have, DoubtedAt, IsBlocker, WasItsHome, Always, BlockedByDoubtsAt, OneCrashBlocksAt, SomeServerBlocksAt, not-true}
+use Rattle.law_run_recovers.proofs.Vocabulary.{◌≡◌, ◌⊎◌, inl, inr, ⊎_elim, ℕ, ◌+◌, ◌<◌, ◌≤◌, Bool, true, false, cond, List, [], ◌∷◌, ◌++◌, Option, Some, None, is_some, refl, sym, ap, subst, ◌∙◌, arith, ◌%◌, ◌/◌, ◌&&◌, ◌||◌, not, nat_lt, nat_le}
+use Rattle.law_run_recovers.proofs.Vocabulary.{Contains, mod-lt, false≢true, and_parts, and_from, eqb-true, eq-eqb, nat_tests, Representative, Configuration, votes_in, total_votes, IsValid, Opening, LockMode, Lock, Request, Stamped, conflicts}
+use Rattle.law_run_recovers.proofs.Vocabulary.{in_the_way, has_prepared, State, served, is_full, answer_of, contains_from, has_filter, any_has, has_any, find_some, needed_of, has_vote, Fixed, home_of, fixed_of, Event, Crash, World, server_at}
+use Rattle.law_run_recovers.proofs.Vocabulary.{operates, operated, opening, step, run, same_or, puts_in, all_up, up_in, is_up, locks_in, locks_at, is_in_doubt, in_doubt, way_in, is_open_way, is_open_at, Want, sweeps, blocks, SweepsAll, can_have}
+use Rattle.law_run_recovers.proofs.Vocabulary.{DoubtedAt, IsBlocker, WasItsHome, Always, BlockedByDoubtsAt, OneCrashBlocksAt, SomeServerBlocksAt, not-true}
 use Rattle.vote_core.specs.Validity.{IsAccepted}
 use Rattle.run_core.proofs.Appending.{after-append}
 use Rattle.rep_core.specs.declared.request.Request.TheVariants as request
@@ -16,29 +16,15 @@ use Rattle.law_run_recovers.proofs.Gathered.{Voter, some_voter}
 -- what one set has of the votes, and what it has not
 votes_apart : (reps : List Representative) (set other : ℕ → Bool) → ((server : ℕ) → set server ≡ not (other server)) → votes_in reps set + votes_in reps other ≡ total_votes reps
 votes_apart [] set other so = refl
-votes_apart (rep ∷ reps) set other so =
-    let rest = votes_apart reps set other so in
-    ap (λ b. (cond b rep.1 0 + votes_in reps set) + (cond (other rep.0) rep.1 0 + votes_in reps other)) (so rep.0) ∙ of (other rep.0) rest
-  where
-    of : (b : Bool) → votes_in reps set + votes_in reps other ≡ total_votes reps → (cond (not b) rep.1 0 + votes_in reps set) + (cond b rep.1 0 + votes_in reps other) ≡ rep.1 + total_votes reps
-    of true rest = omega (arith, rest)
-    of false rest = omega (arith, rest)
+votes_apart (rep ∷ reps) set other so = search (votes_apart reps set other so, arith)
 
 voter_has : (votes : Configuration) (set : ℕ → Bool) (voter : Voter votes.reps set) → has_vote votes voter.rep.0 ≡ true
-voter_has votes set voter =
-    has_any (λ (rep : Representative). (rep.0 == voter.rep.0) && nat_lt 0 rep.1) votes.reps voter.rep voter.has
-    (and_from (voter.rep.0 == voter.rep.0) (nat_lt 0 voter.rep.1) (eq-eqb voter.rep.0 voter.rep.0 refl) voter.votes)
+voter_has votes set voter = search (has_any, nat_lt, and_from, eq-eqb, arith)
 
 -- ---- a server after the sweeps
 
 open_by : (t suite : ℕ) (mode : LockMode) (found : Option State) → is_open_way (way_in t suite mode found) ≡ (up_in found && not (is_some (in_the_way t suite mode (locks_in found))))
-open_by t suite mode None = refl
-open_by t suite mode (Some st) = of st.up (in_the_way t suite mode st.locks)
-  where
-    of : (b : Bool) (other : Option Lock) → is_open_way (cond b (Some (option_map (λ (lock : Lock). lock.t) other)) None) ≡ (b && not (is_some other))
-    of true None = refl
-    of true (Some lock) = refl
-    of false other = refl
+open_by t suite mode found = search arith
 
 module _ (given : Opening) (events : List Event) (agent : ℕ) (sweep_run : List (ℕ × List Event)) (sweeps_all : SweepsAll given events agent sweep_run) where
   abbrev first : World
@@ -67,10 +53,7 @@ module _ (given : Opening) (events : List Event) (agent : ℕ) (sweep_run : List
 
   pub met_so : (t : ℕ) (want : Want)
       → can_have given (events ++ sweeps agent sweep_run) t want ≡ nat_le (needed_of want.mode want.votes + votes_in want.votes.reps (blocks (fixed_of given) first t want.suite want.mode)) (total_votes want.votes.reps)
-  met_so t want = enough (needed_of want.mode want.votes) _ _ _ (counted t want.suite want.mode want.votes)
-    where
-      enough : (needed free blocked total : ℕ) → free + blocked ≡ total → nat_le needed free ≡ nat_le (needed + blocked) total
-      enough needed free blocked total is = grind (arith, nat_tests)
+  met_so t want = search (counted, nat_le, nat_tests, arith)
 
   -- ---- who blocks
 
@@ -98,16 +81,14 @@ module _ (given : Opening) (events : List Event) (agent : ℕ) (sweep_run : List
       record { server = voter.rep.0; votes = voter_has want.votes (blocks (fixed_of given) first t want.suite want.mode) voter; why = of voter.rep.0 (is_up first voter.rep.0) refl voter.inside }
     where
       within : (mode : LockMode) → needed_of mode want.votes ≤ total_votes want.votes.reps
-      within Shared = valid.r_in_range.1
-      within Exclusive = valid.w_in_range.1
+      within mode = search arith
 
       too_few : (needed blocked total : ℕ) → needed ≤ total → nat_le (needed + blocked) total ≡ false → 0 < blocked
       too_few needed blocked total within is = grind (arith, nat_tests)
 
       of : (server : ℕ) (b : Bool) → is_up first server ≡ b → (not b || is_some (in_the_way t want.suite want.mode (in_doubt (fixed_of given) first (locks_at first server)))) ≡ true
           → (is_up first server ≡ false) ⊎ DoubtedAt given first t want server
-      of server true up is = inr (doubted t want server is)
-      of server false up is = inl up
+      of server b h2 h3 = search (doubted, arith)
 
 pub blocked_by_doubts : Always BlockedByDoubtsAt
 blocked_by_doubts given events agent sweep_run sweeps_all t want = met_so given events agent sweep_run sweeps_all t want
@@ -147,14 +128,10 @@ module _ (given : Opening) (events : List Event) (server : ℕ) (up : all_up (ru
 
   -- who is down then is the one that crashed
   it_is : (other : ℕ) → other < given.servers → is_up crashed other ≡ false → other ≡ server
-  it_is other less down =
-      ⊎_elim (λ same. same) (λ apart. absurd (false≢true (sym down ∙ ap up_in (stays other apart) ∙ is_up_of given events up other less))) (same_or other server)
+  it_is other less down = search (false≢true, stays, is_up_of, same_or, arith)
 
 voter_known : (servers : ℕ) (votes : Configuration) → IsAccepted servers votes → (server : ℕ) → has_vote votes server ≡ true → server < servers
-voter_known servers votes accepted server has =
-    let some = any_has (λ (rep : Representative). (rep.0 == server) && nat_lt 0 rep.1) votes.reps has in
-    let parts = and_parts (some.0.0 == server) (nat_lt 0 some.0.1) some.2 in
-    subst (λ server. server < servers) (eqb-true some.0.0 server parts.0) (All-contains (λ (rep : Representative). rep.0 < servers) votes.reps some.0 accepted.known (contains_from votes.reps some.0 some.1))
+voter_known servers votes accepted server has = search (any_has, nat_lt, and_parts, eqb-true, contains_from, arith)
 
 pub one_crash_blocks : Always OneCrashBlocksAt
 one_crash_blocks given events server agent sweep_run up sweeps_all t want accepted short = of block.why

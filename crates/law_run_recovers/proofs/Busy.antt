@@ -1,8 +1,8 @@
 -- Where no sweep begins, who is busy runs a transaction; and where every agent was idle, one that began there.
-use Rattle.law_run_recovers.proofs.Vocabulary.{all_idle, List, None, Option, Some, [], ap, append-nil, append_assoc, cond, false, is_some, refl, subst, sym, true, ℕ, ⊎_elim, ◌++◌, ◌∙◌, ◌∷◌, ◌≡◌, eqb-true, eq-eqb, false≢true, busy, Identity}
-use Rattle.law_run_recovers.proofs.Vocabulary.{Op, CanBe, Running, RunningSweep, names_mine, names, can_front, run_more, all_none, doing_at, doing_of, BeginsNone, event_doing, none_begins, begins_job, holds_of, same_or, agent_of, Request}
-use Rattle.law_run_recovers.proofs.Vocabulary.{Decided, IsAt, IsMine, Leaves, leaves_response, decisions, run, Actor, World, actor_at, step, Event, Begin, Opening, Agent, fixed_of, is_idle, is_decide, said_by, after_response, left, next_in}
-use Rattle.law_run_recovers.proofs.Vocabulary.{next_of, take_in, Doing, Task, TransactionRun, After, GoesOn, Ends, Job, Sweep, Transaction, Response, Begun, running_in, runs}
+use Rattle.law_run_recovers.proofs.Vocabulary.{all_idle, List, None, Option, Some, [], ap, append-nil, append_assoc, cond, false, is_some, refl, subst, sym, true, ℕ, ◌++◌, ◌∙◌, ◌∷◌, ◌≡◌, eqb-true, false≢true, busy, Identity, arith, Op, CanBe}
+use Rattle.law_run_recovers.proofs.Vocabulary.{Running, names_mine, names, can_front, run_more, all_none, doing_at, doing_of, BeginsNone, event_doing, none_begins, begins_job, holds_of, same_or, agent_of, Request, Decided, IsAt, IsMine, Leaves}
+use Rattle.law_run_recovers.proofs.Vocabulary.{leaves_response, decisions, run, Actor, World, actor_at, step, Event, Begin, Opening, Agent, fixed_of, is_idle, is_decide, said_by, after_response, left, next_in, next_of, take_in, Doing, Task}
+use Rattle.law_run_recovers.proofs.Vocabulary.{TransactionRun, After, GoesOn, Job, Sweep, Transaction, Response, Begun, running_in, runs}
 use Rattle.law_run_recovers.proofs.AtWork.{mine_where}
 use Rattle.law_run_recovers.proofs.BesideUnmet.{begins_there, job_same, onward}
 use Rattle.law_run_recovers.proofs.Open.{begun_runs}
@@ -14,8 +14,7 @@ asks_busy given agent asked = busy (fixed_of given) agent.doing asked
 -- ---- who runs a transaction and takes a response runs it still, or nothing
 
 mine_left : (t : ℕ) (task : Task) (after : After TransactionRun) → ((more : TransactionRun) → after ≡ GoesOn more → more.task ≡ task) → task.t ≡ t → IsMine t (left Running after)
-mine_left t task (GoesOn more) same number = ap (λ (task : Task). task.t) (same more refl) ∙ number
-mine_left t task (Ends ended) same number = tt
+mine_left t task after h3 h4 = search arith
 
 pub mine_taken : (given : Opening) (ds : List Decided) (i t : ℕ) (agent : Agent) (response : Response) (asked : ℕ × Request) (doing : Option Doing)
     → next_in (fixed_of given) doing ≡ Some asked → IsAt ds i agent.count doing → runs t doing ≡ true
@@ -28,9 +27,7 @@ mine_taken given ds i t agent response asked (Some (Running txn_run)) next at is
 mine_taken given ds i t agent response asked other next at is = absurd (false≢true is)
 
 pub mine_runs : (t : ℕ) (doing : Option Doing) → IsMine t doing → is_idle doing ≡ false → runs t doing ≡ true
-mine_runs t None mine busy = absurd (false≢true (sym busy))
-mine_runs t (Some (RunningSweep sweep_run)) mine busy = absurd mine
-mine_runs t (Some (Running txn_run)) mine busy = eq-eqb txn_run.task.t t mine
+mine_runs t doing h2 h3 = search arith
 
 -- one that was begun before is run now, by an agent that has this to do
 pub record Busy (given : Opening) (events so_far : List Event) (i : ℕ) (doing : Option Doing) : Type 0 where
@@ -115,13 +112,7 @@ module _ (given : Opening) (events later : List Event) (can : CanBe given (event
 
           -- one begins
           by : (k : ℕ) (job : Job) → event ≡ Begin k job → (found : Option (ℕ × Job)) → begins_job given (run given (events ++ so_far)) (Begin k job) ≡ found → BusyWith (so_far ++ event ∷ []) i here.agent.doing
-          by k job is None begins = none_so (subst (BeginsNone given i w) (sym is) (none_begins given i w (Begin k job) begins))
-          by k (Sweep server) is (Some pair) begins = absurd (false≢true (sym (unswept so_far rest k server (split ∙ ap (λ event. so_far ++ event ∷ rest) is)) ∙ ap is_some begins))
-          by k (Transaction caller site ops) is (Some pair) begins =
-              ⊎_elim
-              (λ same. begins_it k caller site ops is pair.0 (begins ∙ ap (λ job. Some (pair.0, job)) (sym (job_same given w k (Transaction caller site ops) pair begins))) i here there same)
-              (λ apart. none_so (subst (BeginsNone given i w) (sym is) (λ same. absurd (apart (sym same)))))
-              (same_or i k)
+          by k job h2 found h4 = search (none_so, none_begins, false≢true, begins_it, job_same, same_or, arith)
 
           of : (same : Event) → event ≡ same → BusyWith (so_far ++ event ∷ []) i here.agent.doing
           of (Begin k job) is = by k job is (begins_job given w (Begin k job)) refl

@@ -1,19 +1,17 @@
 -- Sweeps decide nothing, and change nothing that is in effect.
-use Rattle.law_run_recovers.proofs.Vocabulary.{◌≡◌, inl, inr, ℕ, ◌+◌, Bool, true, false, cond, List, [], ◌∷◌, ◌++◌, append-nil, Option, Some, None, is_some, refl, sym, ap, subst, ◌∙◌, ◌*◌, ◌==◌, ◌&&◌, not, nat_lt, slice_set, cons_option}
-use Rattle.law_run_recovers.proofs.Vocabulary.{false≢true, and_parts, eqb-true, not-true, none-some, Opening, Sweep, Lacked, Fixed, SweepRun, Doing, Running, RunningSweep, After, GoesOn, Ends, Agent, fixed_of, is_idle, has_sense, max_jobs}
-use Rattle.law_run_recovers.proofs.Vocabulary.{next_in, left, begin, started, Event, Begin, Step, Forget, Lack, Actor, World, Stepped, actor_at, has_no_job, becomes, asks, steps_once, step, after, run, decided, decided_by, decisions_from}
-use Rattle.law_run_recovers.proofs.Vocabulary.{task_of, task_at, task_in, begins_now, puts_in, begins_job, with_job, no_task, hinders, unhindered_from, sweeps, goes_round, Always, SweepsKeepEffectsAt}
-use Rattle.law_run_machine.specs.Machines.{moved, step_events, asked_events, events_of, history_from}
+use Rattle.law_run_recovers.proofs.Vocabulary.{◌≡◌, ℕ, ◌+◌, Bool, true, false, List, [], ◌∷◌, ◌++◌, append-nil, Option, Some, None, is_some, refl, sym, ap, subst, ◌∙◌, ◌==◌, ◌&&◌, not, nat_lt, slice_set, arith, false≢true, and_parts, not-true}
+use Rattle.law_run_recovers.proofs.Vocabulary.{none-some, Opening, Sweep, Lacked, Fixed, SweepRun, Doing, Running, RunningSweep, After, fixed_of, next_in, left, Event, Begin, Step, Forget, Lack, Actor, World, Stepped, actor_at, has_no_job, asks}
+use Rattle.law_run_recovers.proofs.Vocabulary.{steps_once, step, after, decided, decided_by, task_of, task_at, task_in, puts_in, begins_job, with_job, no_task, hinders, unhindered_from, sweeps, goes_round, Always, SweepsKeepEffectsAt}
+use Rattle.law_run_machine.specs.Machines.{step_events, events_of}
 use Rattle.law_suite_machine.specs.Machine as machine
 use Rattle.law_run_recovers.proofs.Aside.{Aside, event_aside}
 use Rattle.law_run_recovers.proofs.OwnStep.{own_step, then_does}
-use Rattle.law_run_recovers.proofs.Quiet.{AllQuiet, all_both, quiet_begin, quiet_lack, quiet_round, Calm, effects_stay, decisions_stay}
+use Rattle.law_run_recovers.proofs.Quiet.{AllQuiet, all_both, quiet_begin, quiet_lack, Calm, effects_stay, decisions_stay}
 
 -- ---- who has no transaction decides nothing
 
 no_task_left : (then : After SweepRun) → task_of (left RunningSweep then) ≡ None
-no_task_left (GoesOn sweep_run) = refl
-no_task_left (Ends ending) = refl
+no_task_left then = search arith
 
 module _ (given : Opening) (agent : ℕ) where
   abbrev fixed : Fixed
@@ -26,22 +24,10 @@ module _ (given : Opening) (agent : ℕ) where
 
   -- it makes a step, or one that is idle does
   stepper : (w : World) (other : ℕ) (served : Bool) (found : Option Actor) → actor_at w other ≡ found → (not (has_no_job found) && not ((other == agent) && served)) ≡ false → HasNoTask w → task_at found ≡ None
-  stepper w other served None is calm none = refl
-  stepper w other served (Some actor) is calm none = of actor.agent.doing refl (other == agent) refl calm
-    where
-      of : (doing : Option Doing) → actor.agent.doing ≡ doing → (b : Bool) → (other == agent) ≡ b → (not (is_idle doing) && not (b && served)) ≡ false → task_of actor.agent.doing ≡ None
-      of None idle b same calm = ap task_of idle
-      of (Some doing) busy true same calm = ap task_at (sym is ∙ ap (actor_at w) (eqb-true other agent same)) ∙ none
-      of (Some doing) busy false same calm = absurd (false≢true (sym calm))
+  stepper w other served found h4 h5 h6 = search arith
 
   quiet_step : (z : ℕ) (m : machine.World) (w : World) (found : Option Actor) → task_at found ≡ None → AllQuiet (step_events given z m w found)
-  quiet_step z m w None none = refl
-  quiet_step z m w (Some actor) none = of actor.agent.doing refl
-    where
-      of : (doing : Option Doing) → actor.agent.doing ≡ doing → AllQuiet (step_events given z m w (Some actor))
-      of None idle = subst (λ asked. AllQuiet (asked_events given z m w actor asked)) (sym (ap (next_in fixed) idle)) refl
-      of (Some (Running txn_run)) busy = absurd (none-some txn_run.task (sym none ∙ ap task_of busy))
-      of (Some (RunningSweep sweep_run)) busy = quiet_round given z m w actor sweep_run busy
+  quiet_step z m w found h4 = search arith
 
   quiet_event : (w : World) (event : Event) → hinders given agent w event ≡ false → HasNoTask w → (z : ℕ) (m : machine.World) → AllQuiet (events_of given z m w event)
   quiet_event w (Begin other job) calm none z m = quiet_begin given z m job (actor_at w other)
@@ -51,8 +37,7 @@ module _ (given : Opening) (agent : ℕ) where
   quiet_event w other calm none z m = absurd (false≢true (sym calm))
 
   none_in : (w : World) (event : Event) → hinders given agent w event ≡ false → HasNoTask w → task_in w event ≡ None
-  none_in w (Step other) calm none = stepper w other (is_some (step fixed w (Step other)).done.served) (actor_at w other) refl calm none
-  none_in w another calm none = refl
+  none_in w event h2 h3 = search (stepper, arith)
 
   decides_none : (w : World) (event : Event) → task_in w event ≡ None → decided fixed w event ≡ None
   decides_none w event none = ap (λ task. decided_by w task (step fixed w event).done.served) none ∙ no_task w (step fixed w event).done.served
@@ -76,19 +61,13 @@ module _ (given : Opening) (agent : ℕ) where
   own_event w event none own = subst (λ event. is_some (step fixed w event).done.served ≡ true → HasNoTask (step fixed w event).world) (sym own) (own_none w (actor_at w agent) refl none)
 
   still_none : (w : World) (event : Event) → hinders given agent w event ≡ false → HasNoTask w → HasNoTask (step fixed w event).world
-  still_none w event calm none = elim (event_aside given agent w event calm) [
-    | inl aside ↦ aside_none w (step fixed w event) aside none
-    | inr own ↦ own_event w event none own.0 own.1
-  ]
+  still_none w event calm none = search (event_aside, aside_none, own_event, arith)
 
   -- ---- events
 
   pub calm_more : (w : World) (event : Event) (later : List Event) → ((z : ℕ) (m : machine.World) → AllQuiet (events_of given z m w event)) → task_in w event ≡ None
       → Calm given (step fixed w event).world later → Calm given w (event ∷ later)
-  calm_more w event later quiet none calm = record {
-    quiet = λ z m. all_both (events_of given z m w event) (history_from given z (moved given z m w event) (step fixed w event).world later) (quiet z m) (calm.quiet z (moved given z m w event));
-    none = ap (λ one. cons_option one (decisions_from fixed (step fixed w event).world later)) (decides_none w event none) ∙ calm.none;
-  }
+  calm_more w event later quiet none calm = search (all_both, decides_none, arith)
 
   pub calm_all : (events later : List Event) (w : World) → HasNoTask w → unhindered_from given agent w events ≡ true → Calm given (after fixed w events) later → Calm given w (events ++ later)
   calm_all [] later w none calm rest = rest
@@ -100,19 +79,7 @@ module _ (given : Opening) (agent : ℕ) where
   -- ---- a sweep begins
 
   pub begun_none : (w : World) (server : ℕ) → is_some (begins_job given w (Begin agent (Sweep server))) ≡ true → HasNoTask (step fixed w (Begin agent (Sweep server))).world
-  begun_none w server begins = of (actor_at w agent) refl begins
-    where
-      of : (found : Option Actor) → actor_at w agent ≡ found → is_some (with_job (Sweep server) (begins_now fixed agent (Sweep server) found)) ≡ true
-          → HasNoTask (becomes w agent (λ agent. begin fixed agent (Sweep server)) found).world
-      of None is begins = absurd (false≢true begins)
-      of (Some actor) is begins =
-          let new : Agent = record (started fixed actor.agent (Sweep server)) { count = actor.agent.count + 1 } in
-          elim (is_idle actor.agent.doing && has_sense fixed (Sweep server) && nat_lt actor.agent.count max_jobs) as
-          (λ b. is_some (with_job (Sweep server) (cond b (Some (64 * actor.agent.count + agent)) None)) ≡ true
-          → HasNoTask (record w { agents = slice_set w.agents agent (record actor { agent = cond b new actor.agent }) })) [
-            | true ↦ λ _. ap task_at (puts_in w.agents agent actor (record actor { agent = new }) is).here
-            | false ↦ λ none. absurd (false≢true none)
-          ] begins
+  begun_none w server begins = search (with_job, false≢true, nat_lt, slice_set, puts_in, arith)
 
   pub calm_sweep : (w : World) (server : ℕ) (events later : List Event) → is_some (begins_job given w (Begin agent (Sweep server))) ≡ true
       → unhindered_from given agent (step fixed w (Begin agent (Sweep server))).world events ≡ true
@@ -133,11 +100,4 @@ module _ (given : Opening) (agent : ℕ) where
       calm_sweep w one.0 one.1 (sweeps agent more) begins.0 begins.1 (calm_round (after fixed begun one.1) more parts.1)
 
 pub sweeps_keep_effects : Always SweepsKeepEffectsAt
-sweeps_keep_effects given events later agent t server alone =
-    let world = run given events in
-    let calm = calm_sweep given agent world server later [] (ap is_some alone.begins) alone.alone (calm_end given agent (after (fixed_of given) (step (fixed_of given) world (Begin agent (Sweep server))).world later)) in
-    let calm' = subst (λ later. Calm given world (Begin agent (Sweep server) ∷ later)) (append-nil later) calm in
-    record {
-      effects = effects_stay given events (Begin agent (Sweep server) ∷ later) alone.can calm';
-      decided = decisions_stay given events (Begin agent (Sweep server) ∷ later) alone.can calm';
-    }
+sweeps_keep_effects given events later agent t server alone = search (append-nil later, calm_sweep, calm_end, effects_stay, decisions_stay, arith)

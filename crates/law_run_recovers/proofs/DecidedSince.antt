@@ -1,6 +1,6 @@
 -- A transaction was not decided before it began, nor as it did.
-use Rattle.law_run_recovers.proofs.Vocabulary.{◌≡◌, ⊎_elim, ℕ, ◌+◌, ◌*◌, ◌≤◌, List, [], ◌∷◌, ◌++◌, append-nil, Option, Some, sym, ap, subst, ◌∙◌, arith, cons_option, Identity, Opening, Op, Transaction, fixed_of, Event, Begin, Actor}
-use Rattle.law_run_recovers.proofs.Vocabulary.{actor_at, opening, step, run, Decided, decisions, decisions_from, decisions_from-append, has_append, append_has_right, holds_of, Has, agent_of, agent_at, no_task, CanBe}
+use Rattle.law_run_recovers.proofs.Vocabulary.{◌≡◌, ℕ, ◌+◌, ◌*◌, ◌≤◌, List, [], ◌∷◌, ◌++◌, append-nil, Some, sym, ap, subst, ◌∙◌, arith, Identity, Opening, Op, Transaction, fixed_of, Event, Begin, Actor, actor_at, step, run, Decided, decisions}
+use Rattle.law_run_recovers.proofs.Vocabulary.{decisions_from, decisions_from-append, has_append, append_has_right, holds_of, Has, agent_of, agent_at, no_task, CanBe}
 use Rattle.law_runs.proofs.Agents.{not_begun}
 
 -- it was not decided before, nor as it began
@@ -18,9 +18,7 @@ module _ (given : Opening) (events later : List Event) (agent t : ℕ) (caller :
   since = decisions_from (fixed_of given) (step (fixed_of given) (run given events) (Begin agent (Transaction caller site ops))).world later
 
   parts : decisions given (events ++ Begin agent (Transaction caller site ops) ∷ later) ≡ decisions given events ++ since
-  parts =
-      decisions_from-append (fixed_of given) (opening given) events (Begin agent (Transaction caller site ops) ∷ later)
-      ∙ ap (λ more. decisions given events ++ more) (ap (λ (first : Option Decided). cons_option first since) (no_task (run given events) (step (fixed_of given) (run given events) (Begin agent (Transaction caller site ops))).done.served))
+  parts = search (decisions_from-append, no_task, arith)
 
   -- one of those since stands among all
   pub has_since : (one : Decided) → Has (decisions_from (fixed_of given) (step (fixed_of given) (run given events) (Begin agent (Transaction caller site ops))).world later) one
@@ -30,8 +28,7 @@ module _ (given : Opening) (events later : List Event) (agent t : ℕ) (caller :
   -- each that is of it stands among those since
   pub stood_since : (one : Decided) → Has (decisions given (events ++ Begin agent (Transaction caller site ops) ∷ later)) one → one.t ≡ t
       → Has (decisions_from (fixed_of given) (step (fixed_of given) (run given events) (Begin agent (Transaction caller site ops))).world later) one
-  stood_since one has of_it =
-      ⊎_elim (λ before. absurd (not_before one before of_it)) (λ since. since) (has_append (decisions given events) since one (subst (λ ds. Has ds one) parts has))
+  stood_since one has of_it = search (not_before, has_append, parts, arith)
 
   -- where none stands among those since, they are as they were
   pub none_since : decisions_from (fixed_of given) (step (fixed_of given) (run given events) (Begin agent (Transaction caller site ops))).world later ≡ []

@@ -1,24 +1,17 @@
 -- Lists of locks that are filtered, and how many transactions have some.
-use Rattle.law_run_recovers.proofs.Vocabulary.{◌≡◌, inl, inr, ℕ, ◌+◌, Bool, true, false, cond, List, [], ◌∷◌, ◌++◌, refl, sym, ap, ◌∙◌, arith, ◌==◌, ◌&&◌, ◌||◌, not, filter, list_all, list_any, and_parts, eqb-true, nat_tests, Lock, before}
-use Rattle.law_run_recovers.proofs.Vocabulary.{rise, with_lock, Has, all_at, rising, others, one_if, holders}
+use Rattle.law_run_recovers.proofs.Vocabulary.{◌≡◌, inl, inr, ℕ, ◌+◌, Bool, true, false, cond, List, [], ◌∷◌, ◌++◌, refl, sym, ap, ◌∙◌, arith, ◌==◌, ◌&&◌, ◌||◌, not, filter, list_all, list_any, and_parts, eqb-true, nat_tests, Lock, before, rise}
+use Rattle.law_run_recovers.proofs.Vocabulary.{with_lock, Has, all_at, rising, others, one_if, holders}
 
 module _ {X : Type 0} where
   -- a filter of a filter
   pub filter_twice : (p q : X → Bool) (xs : List X) → filter q (filter p xs) ≡ filter (λ x. p x && q x) xs
   filter_twice p q [] = refl
-  filter_twice p q (x ∷ xs) =
-      let rest = filter_twice p q xs in
-      elim (p x) as (λ b. filter q (cond b (x ∷ filter p xs) (filter p xs)) ≡ cond (b && q x) (x ∷ filter (λ x. p x && q x) xs) (filter (λ x. p x && q x) xs)) [
-        | true ↦ elim (q x) as (λ b. cond b (x ∷ filter q (filter p xs)) (filter q (filter p xs)) ≡ cond b (x ∷ filter (λ x. p x && q x) xs) (filter (λ x. p x && q x) xs)) [ true ↦ ap (λ xs. x ∷ xs) rest | false ↦ rest ]
-        | false ↦ rest
-      ]
+  filter_twice p q (x ∷ xs) = search (filter_twice p q xs, arith)
 
   -- two tests that agree on all members
   pub filter_alike : (p q : X → Bool) (xs : List X) → ((x : X) → Has xs x → p x ≡ q x) → filter p xs ≡ filter q xs
   filter_alike p q [] same = refl
-  filter_alike p q (x ∷ xs) same =
-      ap (λ b. cond b (x ∷ filter p xs) (filter p xs)) (same x (inl refl))
-      ∙ ap (λ rest. cond (q x) (x ∷ rest) rest) (filter_alike p q xs (λ y has. same y (inr has)))
+  filter_alike p q (x ∷ xs) same = search (filter_alike p q xs, arith)
 
   pub filter_all : (p : X → Bool) (xs : List X) → ((x : X) → Has xs x → p x ≡ true) → filter p xs ≡ xs
   filter_all p [] all = refl
@@ -51,15 +44,7 @@ has_of t locks = list_any (λ (other : Lock). other.t == t) locks
 -- those of others tell whether another has some
 has_of_others : (t u : ℕ) (locks : List Lock) → (u == t) ≡ false → has_of u (others t locks) ≡ has_of u locks
 has_of_others t u [] apart = refl
-has_of_others t u (lock ∷ locks) apart =
-    let rest = has_of_others t u locks apart in
-    elim (lock.t == t) as (λ b. (lock.t == t) ≡ b → has_of u (cond (not b) (lock ∷ others t locks) (others t locks)) ≡ ((lock.t == u) || has_of u locks)) [
-      | true ↦ λ is. rest ∙ ap (λ b. b || has_of u locks) (sym (other lock.t t u is apart))
-      | false ↦ λ _. ap (λ b. (lock.t == u) || b) rest
-    ] refl
-  where
-    other : (a t u : ℕ) → (a == t) ≡ true → (u == t) ≡ false → (a == u) ≡ false
-    other a t u is apart = grind (arith, nat_tests)
+has_of_others t u (lock ∷ locks) apart = search (nat_tests, has_of_others t u locks apart, arith)
 
 -- one of them and the others
 pub holders_of : (t : ℕ) (locks : List Lock) → holders locks ≡ one_if (has_of t locks) + holders (others t locks)
@@ -77,8 +62,7 @@ holders_of t (lock ∷ locks) =
     ] refl
   where
     both : (b : Bool) (n : ℕ) → one_if (not b) + (one_if b + n) ≡ 1 + n
-    both true n = omega arith
-    both false n = omega arith
+    both b n = search arith
 
     turned : (a b c : ℕ) → a + (b + c) ≡ b + (a + c)
     turned a b c = omega arith

@@ -1,9 +1,9 @@
 -- A transaction executes on what it gathered: what it needs next on the table is asked for, or all is known.
-use Rattle.law_run_recovers.proofs.Vocabulary.{◌≡◌, inl, inr, ℕ, zero, suc, Bool, true, false, cond, List, [], ◌∷◌, length, Option, Some, None, is_some, Result, Ok, Err, refl, sym, ap, subst, ◌∙◌, ◌==◌, ◌&&◌, ◌||◌, not, map, filter, find}
-use Rattle.law_run_recovers.proofs.Vocabulary.{unwrap_or, list_any, nat_cmp, false≢true, and_parts, and_from, false_from_ne_true, none-some, same_Some, IsOrdered, Configuration, Content, absent_prefix, Prefix, LockMode, Shared, Exclusive}
-use Rattle.law_run_recovers.proofs.Vocabulary.{serves, Has, any_has, has_any, Answer, Refusal, PlainTable, row_of, replies, Change, Need, Hold, Know, Ended, Heard, heard, Done, first_unmet, exec_of, AgreesWith, on_table, transaction}
-use Rattle.law_run_recovers.proofs.Vocabulary.{on_transaction, changes_are_held, Collector, collect, raise, Cache, hint, searched, search_keeps_all, ReadPoint, GatheredSuite, Suites, suite_of, with_suite, known_of, Fixed, Task, Granted}
-use Rattle.law_run_recovers.proofs.Vocabulary.{self, with_at, each_but, each_with, but_with, are_nil, World, is_met, MayStart, has_asked, not_asked, changes_on, mode_or, first_mode, serves_shared, or_right, Outcome as Executed, is_held}
+use Rattle.law_run_recovers.proofs.Vocabulary.{◌≡◌, inl, inr, ℕ, zero, suc, Bool, true, false, cond, List, [], ◌∷◌, length, Option, Some, None, is_some, Result, Ok, Err, refl, sym, ap, subst, ◌∙◌, ◌==◌, ◌||◌, not, map, filter, find, arith, list_any}
+use Rattle.law_run_recovers.proofs.Vocabulary.{nat_cmp, false≢true, and_parts, and_from, false_from_ne_true, none-some, same_Some, IsOrdered, Configuration, Content, Prefix, LockMode, Shared, Exclusive, serves, Has, any_has, has_any, Answer, Refusal}
+use Rattle.law_run_recovers.proofs.Vocabulary.{PlainTable, row_of, Change, Need, Hold, Know, Ended, Heard, heard, Done, first_unmet, exec_of, AgreesWith, on_transaction, changes_are_held, Collector, collect, raise, Cache, hint, searched}
+use Rattle.law_run_recovers.proofs.Vocabulary.{search_keeps_all, ReadPoint, GatheredSuite, Suites, suite_of, with_suite, known_of, Fixed, Task, Granted, self, with_at, each_but, each_with, but_with, are_nil, World, is_met, MayStart, has_asked}
+use Rattle.law_run_recovers.proofs.Vocabulary.{not_asked, changes_on, first_mode, serves_shared, or_right, Outcome as Executed, is_held}
 use Rattle.file_exec.proofs.Alike.{goes_alike}
 use Rattle.file_exec.specs.Changes.{answered}
 use Rattle.txn_core.specs.Transactions.{Step, Gathered, start_from, raised_or_new, gather, widen_all, heard_on, after_search, free_content, opened_with, open_first, open_suite, open_needed, or_all, opened, proceed, execute, prepare}
@@ -28,11 +28,7 @@ given_by (Ok ended) = Ok ended.given
 given_by (Err refusal) = Err refusal
 
 answer_on_table : (table : PlainTable) (task : Task) → given_by (result_on table task) ≡ answer_to table task
-answer_on_table table task = of (result_on table task) ∙ ap replies (on_transaction table.service table.rows task.t task.caller task.ops)
-  where
-    of : (result : Result (Ended (List Answer)) Refusal) → given_by result ≡ replies (on_table table.rows result)
-    of (Ok ended) = refl
-    of (Err refusal) = refl
+answer_on_table table task = search (result_on table task, on_transaction table.service table.rows task.t task.caller task.ops, arith)
 
 -- the suites that get votes
 numbers_are : (all : List (ℕ × Change)) → map (λ (one : ℕ × Change). one.0) all ≡ numbers (map as_set all)
@@ -41,18 +37,12 @@ numbers_are (one ∷ all) = ap (λ rest. one.0 ∷ rest) (numbers_are all)
 
 -- what was asked for in some mode
 any_wider : (asked : List (ℕ × LockMode)) (z : ℕ) → has_asked asked z Exclusive ≡ true → list_any (λ (lock : ℕ × LockMode). lock.0 == z) asked ≡ true
-any_wider asked z is =
-    let found = any_has (λ (lock : ℕ × LockMode). (lock.0 == z) && serves lock.1 Exclusive) asked is in
-    has_any (λ (lock : ℕ × LockMode). lock.0 == z) asked found.0 found.1 (and_parts (found.0.0 == z) (serves found.0.1 Exclusive) found.2).0
+any_wider asked z is = search (any_has, has_any, and_parts, arith)
 
 -- ---- what is not gathered
 
 pub none_with : (suites : Suites) (number : ℕ) (new : GatheredSuite) (z : ℕ) → suite_of (with_suite number new suites) z ≡ None → (suite_of suites z ≡ None) × ((number == z) ≡ false)
-none_with suites number new z none = of (number == z) refl (sym (with_at number new suites z) ∙ none)
-  where
-    of : (b : Bool) → (number == z) ≡ b → cond b (Some new) (suite_of suites z) ≡ None → (suite_of suites z ≡ None) × ((number == z) ≡ false)
-    of true is none = absurd (none-some new (sym none))
-    of false is none = (none, is)
+none_with suites number new z none = search (with_at, none-some, arith)
 
 -- what is among those left is among all
 asks_onto : (so_far left : List (ℕ × LockMode)) (z : ℕ) → asks_of left z ≡ true → asks_of (onto so_far left) z ≡ true
@@ -60,9 +50,7 @@ asks_onto [] left z is = is
 asks_onto (one ∷ so_far) left z is = asks_onto so_far (one ∷ left) z (or_right (one.0 == z) (asks_of left z) is)
 
 weak_or_not : (mode other : LockMode) → serves mode other ≡ false → other ≡ Exclusive
-weak_or_not Shared Shared is = absurd (false≢true (sym is))
-weak_or_not Exclusive Shared is = absurd (false≢true (sym is))
-weak_or_not mode Exclusive is = refl
+weak_or_not mode other h2 = search arith
 
 -- what is asked for first of a suite that was not asked for
 find_onto : {X : Type 0} (p : X → Bool) (so_far left : List X) → ((x : X) → Has so_far x → p x ≡ false) → find p (onto so_far left) ≡ find p left
@@ -70,13 +58,7 @@ find_onto p [] left none = refl
 find_onto p (x ∷ so_far) left none = find_onto p so_far (x ∷ left) (λ y has. none y (inr has)) ∙ ap (λ b. cond b (Some x) (find p left)) (none x (inl refl))
 
 first_asked : (asked left : List (ℕ × LockMode)) (number : ℕ) (mode : LockMode) → has_asked asked number Shared ≡ false → first_mode (onto asked ((number, mode) ∷ left)) number ≡ mode
-first_asked asked left number mode none =
-    ap (mode_or Shared) (find_onto (λ (one : ℕ × LockMode). one.0 == number) asked ((number, mode) ∷ left) not_it ∙ ap (λ b. cond b (Some (number, mode)) (find (λ (one : ℕ × LockMode). one.0 == number) left)) (self number))
-  where
-    not_it : (one : ℕ × LockMode) → Has asked one → (one.0 == number) ≡ false
-    not_it one has =
-        false_from_ne_true (one.0 == number)
-        (λ is. false≢true (sym none ∙ has_any (λ (one : ℕ × LockMode). (one.0 == number) && serves one.1 Shared) asked one has (and_from (one.0 == number) (serves one.1 Shared) is (serves_shared one.1))))
+first_asked asked left number mode none = search (find_onto, self, false_from_ne_true, false≢true, has_any, and_from, serves_shared, arith)
 
 module _ (fixed : Fixed) (world : World) (sight : Sight) (table : PlainTable) (task : Task) (cache : Cache) (Was : ℕ → Prefix → Type 0) (ground : Ground fixed world sight cache task.site (locks_on table task) Was) where
   abbrev Good : Step → Type 0
@@ -121,17 +103,10 @@ module _ (fixed : Fixed) (world : World) (sight : Sight) (table : PlainTable) (t
   }
     where
       held : (mode : LockMode) (first : Option ReadPoint) → held_if (record suite { content = content }) mode first ≡ held_if suite mode first
-      held mode (Some first) = refl
-      held mode None = refl
+      held mode first = search arith
 
       of : Whole number suite → Whole number (record suite { content = content })
-      of w = record {
-        found = record { start = w.found.start; may = w.found.may; asked = w.found.asked; reached = w.found.reached; led = w.found.led; version = w.found.version };
-        had = w.had;
-        mode_is = w.mode_is;
-        lock = record { server = w.lock.server; is_one = w.lock.is_one; holds = w.lock.holds };
-        none_newer = w.none_newer;
-      }
+      of w = search arith
 
   pub record Opened (all more : Gathered) : Type 0 where
     pub ready : Ready more.suites
@@ -146,21 +121,11 @@ module _ (fixed : Fixed) (world : World) (sight : Sight) (table : PlainTable) (t
       of false = search_keeps_all.hint task.site number first.dver task.site z now
 
   pub still_there : (suites : Suites) (number : ℕ) (new : GatheredSuite) (z : ℕ) → is_some (suite_of suites z) ≡ true → is_some (suite_of (with_suite number new suites) z) ≡ true
-  still_there suites number new z some = ap is_some (with_at number new suites z) ∙ of (number == z)
-    where
-      of : (b : Bool) → is_some (cond b (Some new) (suite_of suites z)) ≡ true
-      of true = refl
-      of false = some
+  still_there suites number new z some = search (with_at, arith)
 
   module _ (all : Gathered) (ready : Ready all.suites) (hints : Hinted all.suites all.cache) where
     opens_with : (number : ℕ) (suite : GatheredSuite) (first : ReadPoint) → suite_of all.suites number ≡ Some suite → (found : Option Content) (more : Gathered) → opened_with task all number suite first found ≡ Some more → Opened all more
-    opens_with number suite first there None more is = absurd (none-some more is)
-    opens_with number suite first there (Some content) more is =
-        subst (Opened all) (same_Some _ more is) (record {
-          ready = content_ready all.suites number suite (Some content) ready there;
-          hints = λ z none prefix hinted. hints z (none_with all.suites number (record suite { content = Some content }) z none).0 prefix (sym (hint_after all.cache number first z) ∙ hinted);
-          there = still_there all.suites number (record suite { content = Some content });
-        })
+    opens_with number suite first h3 found more h6 = search (none-some, same_Some, content_ready, none_with, hint_after, still_there, arith)
 
     opens_first : (number : ℕ) (suite : GatheredSuite) → suite_of all.suites number ≡ Some suite → (first : Option ReadPoint) (more : Gathered) → open_first task all number suite first ≡ Some more → Opened all more
     opens_first number suite there (Some first) more is = opens_with number suite first there (free_content task all.cache number first) more is
@@ -219,11 +184,7 @@ module _ (fixed : Fixed) (world : World) (sight : Sight) (table : PlainTable) (t
           ∙ asks_onto ready.asked _ number (ap (λ b. b || asks_of (not_asked ((number, mode) ∷ ready.asked) (needed_on table task)) number) (self number))
 
       may_from : (z : ℕ) → suite_of suites z ≡ None → MayStart fixed cache task.site z (start_from fixed task now z)
-      may_from z none = of (hint now task.site z) refl
-        where
-          of : (found : Option Prefix) → hint now task.site z ≡ found → MayStart fixed cache task.site z (unwrap_or found (absent_prefix fixed.service.c0))
-          of None found = inl refl
-          of (Some prefix) found = inr (hints z none prefix found)
+      may_from z none = search arith
 
       -- it is asked for in the mode in which it is first
       first_of : suite_of suites number ≡ None → mode ≡ sight.first number
@@ -264,8 +225,7 @@ module _ (fixed : Fixed) (world : World) (sight : Sight) (table : PlainTable) (t
                 start = found.start;
                 may = found.may;
                 asked = found.asked;
-                reached = reached_raise fixed world sight number (Was number) found.start
-                    (ground.rules number found.start found.asked found.may) suite.collector found.reached whole.none_newer;
+                reached = search (reached_raise, arith);
                 led = found.led;
                 version = found.version;
               })
@@ -276,12 +236,10 @@ module _ (fixed : Fixed) (world : World) (sight : Sight) (table : PlainTable) (t
               gather_by_stands fixed world sight table task cache Was ground (with_suite number new suites) number g now (hinted_with suites number new now hints)
             where
               by_first : (first : Option ReadPoint) → is_some first ≡ true → held_if suite mode first ≡ serves suite.mode mode
-              by_first (Some first) some = refl
-              by_first None some = absurd (false≢true some)
+              by_first first h1 = search (false≢true, arith)
 
               held : (other : LockMode) (first : Option ReadPoint) → held_if (record suite { collector = raise suite.collector }) other first ≡ held_if suite other first
-              held other (Some first) = refl
-              held other None = refl
+              held other first = search arith
 
     -- ---- all is known
 
@@ -293,13 +251,7 @@ module _ (fixed : Fixed) (world : World) (sight : Sight) (table : PlainTable) (t
       all_had other has = had_met fixed world sight table task cache suites other (ready.asks.had other has)
 
       all_modes : (z : ℕ) (mode : LockMode) → held_in mode (suite_of suites z) ≡ has_asked (locks_on table task) z mode
-      all_modes z mode =
-          let is_it : ℕ × LockMode → Bool = λ one. (one.0 == z) && serves one.1 mode in
-          ready.asks.modes z mode ∙ sym (ap (λ locks. has_asked locks z mode) all_asked ∙ any_onto is_it ready.asked [] ∙ no_more (list_any is_it ready.asked))
-        where
-          no_more : (b : Bool) → (b || false) ≡ b
-          no_more true = refl
-          no_more false = refl
+      all_modes z mode = search (all_asked, any_onto, arith)
 
       refused_stands : (refusal : Refusal) → result_on table task ≡ Err refusal → Good (prepare task now suites (Err refusal) (locked_at suites))
       refused_stands refusal is =
@@ -352,16 +304,13 @@ module _ (fixed : Fixed) (world : World) (sight : Sight) (table : PlainTable) (t
           set_there one set = of (suite_of suites one.0) (set_held one set)
             where
               of : (found : Option GatheredSuite) → held_in Exclusive found ≡ true → is_some found ≡ true
-              of (Some suite) held = refl
-              of None held = absurd (false≢true held)
+              of found h1 = search (false≢true, arith)
 
     -- ---- what it needs on the table
 
     module _ (same_service : table.service ≡ fixed.service) (agrees : AgreesWith (known_of suites) (row_of table.rows)) where
       goes : exec_of fixed.service (known_of suites) task.t task.caller task.ops ≡ heard (first_unmet (known_of suites) (needed_on table task)) (result_on table task)
-      goes =
-          ap (λ service. exec_of service (known_of suites) task.t task.caller task.ops) (sym same_service)
-          ∙ goes_alike (known_of suites) (row_of table.rows) agrees [] (λ _ set. cc) (transaction table.service task.t task.caller task.ops)
+      goes = search (goes_alike, arith)
 
       pub proceed_stands : Good (proceed fixed task now suites (heard_on fixed task suites))
       proceed_stands =
@@ -369,19 +318,13 @@ module _ (fixed : Fixed) (world : World) (sight : Sight) (table : PlainTable) (t
         where
           of : (unmet : Option Need) → first_unmet (known_of suites) (needed_on table task) ≡ unmet → (result : Result (Ended (List Answer)) Refusal) → result_on table task ≡ result
               → Good (proceed fixed task now suites (answered (known_of suites) (heard unmet result)))
-          of (Some (Hold number mode)) unmet result is = gather_stands number mode unmet
-          of (Some (Know number)) unmet result is = (refl, (ready, hints))
-          of None unmet (Err refusal) is = refused_stands unmet refusal is
-          of None unmet (Ok ended) is = granted_stands unmet ended is agrees (goes ∙ ap (λ need. heard need (result_on table task)) unmet ∙ ap (λ result. Done result) is)
+          of unmet h1 result h3 = search (gather_stands, refused_stands, granted_stands, goes, result_on, arith)
 
   -- ---- it executes
 
   module _ (same_service : table.service ≡ fixed.service) where
     pub execute_stands : (all : Gathered) → Ready all.suites → Hinted all.suites all.cache → AgreesWith (known_of (opened (length all.suites) fixed task all).suites) (row_of table.rows) → Good (execute fixed task all)
-    execute_stands all ready hints agrees =
-        let open' = opened (length all.suites) fixed task all in
-        let so = opened_stands (length all.suites) all ready hints in
-        proceed_stands open'.cache open'.suites so.ready so.hints same_service agrees
+    execute_stands all ready hints agrees = search (opened_stands, proceed_stands, arith)
 
     pub begin_stands : Good (execute fixed task (record { suites = []; cache = cache }))
     begin_stands = execute_stands (record { suites = []; cache = cache }) none_ready (λ z none prefix hinted. hinted) (λ z. tt)

@@ -1,9 +1,9 @@
 -- Where a suite's votes are found, they are those of its row: a prefix that the suite had, of which servers that are up have a quorum, none of which
 -- shows a newer one, is the row's, as long as no server that is up has a lock.
-use Rattle.law_run_recovers.proofs.Vocabulary.{◌≡◌, inl, inr, ⊎_elim, ℕ, suc, ◌+◌, ◌≤◌, Bool, true, false, cond, List, [], ◌∷◌, length, Option, Some, None, refl, sym, ap, subst, ◌∙◌, arith, ◌==◌, ◌&&◌, ◌||◌, not, nat_lt, nat_le, find}
-use Rattle.law_run_recovers.proofs.Vocabulary.{option_map, unwrap_or, list_any, nat_cmp, false≢true, and_parts, cases_Bool, eqb-true, eq-eqb, and_from, ltb-false, nat_tests, none-some, get, Representative, Configuration, votes_in, Opening}
-use Rattle.law_run_recovers.proofs.Vocabulary.{Prefix, Replica, Lock, IsConsistent, copy_of, State, Has, has_from, all_at, any_has, has_any, find_none, Fixed, fixed_of, server_at, Beginning, row, prefix_at, WasPrefix, IsQuorum, in_effect}
-use Rattle.law_run_recovers.proofs.Vocabulary.{effect, Inv, plan_of, Shows, beginning, servers_of, home_in, at_has, up_in, is_up, up_free, shown_at, shown_in, shows_newer_by, newer_by}
+use Rattle.law_run_recovers.proofs.Vocabulary.{◌≡◌, inl, inr, ℕ, suc, ◌+◌, ◌≤◌, Bool, true, false, cond, List, [], ◌∷◌, length, Option, Some, None, refl, sym, ap, subst, ◌∙◌, arith, ◌==◌, ◌&&◌, ◌||◌, not, nat_lt, nat_le, unwrap_or, list_any, nat_cmp}
+use Rattle.law_run_recovers.proofs.Vocabulary.{false≢true, and_parts, cases_Bool, eqb-true, eq-eqb, and_from, ltb-false, nat_tests, none-some, get, Representative, Configuration, votes_in, Opening, Prefix, Replica, Lock, IsConsistent, copy_of, State}
+use Rattle.law_run_recovers.proofs.Vocabulary.{Has, has_from, all_at, any_has, has_any, find_none, Fixed, fixed_of, server_at, Beginning, row, WasPrefix, IsQuorum, in_effect, effect, Inv, plan_of, Shows, beginning, servers_of, home_in, at_has, up_in}
+use Rattle.law_run_recovers.proofs.Vocabulary.{is_up, up_free, shown_at, shown_in, newer_by}
 use Rattle.law_suite_machine.specs.Machine.{World}
 use Rattle.rep_core.specs.Intentions as server
 use Rattle.rep_core.specs.State as state
@@ -29,20 +29,13 @@ votes_only all set (rep ∷ reps) within =
     with_vote some = has_any (λ (other : Representative). (other.0 == rep.0) && nat_lt 0 other.1) all rep (within rep (inl refl)) (and_from (rep.0 == rep.0) (nat_lt 0 rep.1) (eq-eqb rep.0 rep.0 refl) some)
 
     no_vote : (b : Bool) → rep.1 ≡ 0 → cond b rep.1 0 ≡ rep.1
-    no_vote true is = refl
-    no_vote false is = sym is
+    no_vote b h1 = search arith
 
     here : (b : Bool) → cond (b && has_vote all rep.0) rep.1 0 ≡ cond b rep.1 0
-    here true = ⊎_elim (λ some. ap (λ b. cond b rep.1 0) (with_vote some)) (λ none. no_vote (has_vote all rep.0) (none_left rep.1 none)) (cases_Bool (nat_lt 0 rep.1))
-    here false = refl
+    here b = search (with_vote, no_vote, none_left, cases_Bool, nat_lt, arith)
 
 pub still_quorum : (votes : Configuration) (set : ℕ → Bool) → IsQuorum votes set → IsQuorum votes (voting votes.reps set)
-still_quorum votes set quorum =
-    let same = sym (votes_only votes.reps set votes.reps (λ rep has. has)) in
-    ⊎_elim
-    (λ read. inl (subst (λ n. nat_le votes.r n ≡ true) same read))
-    (λ write. inr (subst (λ n. nat_le votes.w n ≡ true) same write))
-    quorum
+still_quorum votes set quorum = grind (votes_only, nat_le, arith)
 
 -- ---- on the machine of a suite
 
@@ -52,11 +45,7 @@ same_top e p r is most le = omega (arith, is, most, le)
 -- a quorum under a prefix that the register had, of which none has a newer one in effect
 pub newest_is_row : (start : Beginning) (w : World) → Inv start w → (prefix : Prefix) → WasPrefix start w.log prefix → (set : ℕ → Bool) → IsQuorum prefix.votes set → ((i : ℕ) → set i ≡ true → (effect w i).prefix.pver ≤ prefix.pver)
     → prefix ≡ (row start w.log).prefix
-newest_is_row start w inv prefix was set quorum none =
-    let x = inv.current.reach prefix.pver was.0 set (subst (λ (p : Prefix). IsQuorum p.votes set) (sym was.1) quorum) in
-    let most = none x.0 x.1 in
-    let same : prefix.pver ≡ (row start w.log).prefix.pver = elim (x.2) [ inl above ↦ absurd (omega (arith, most, above)) | inr e ↦ same_top (effect w x.0).prefix.pver prefix.pver (row start w.log).prefix.pver e most was.0 ] in
-    sym was.1 ∙ ap (prefix_at start w.log) same ∙ inv.logged.own.0.1
+newest_is_row start w inv prefix was set quorum none = search arith
 
 -- ---- in a world
 
@@ -70,8 +59,7 @@ no_locks [] is = refl
 no_locks (lock ∷ locks) is = let none : suc (length locks) ≡ 0 = eqb-true (suc (length locks)) 0 is in absurd (omega (arith, none))
 
 pub or_rest : (a b : Bool) → a ≡ false → (a || b) ≡ true → b ≡ true
-or_rest true b differs is = absurd (false≢true (sym differs))
-or_rest false b differs is = is
+or_rest a b h2 h3 = search arith
 
 module _ (given : Opening) (z : ℕ) (w : World) (world : worlds.World) (inv : Inv (beginning z given) w) (shows : Shows z (home_in given) (servers_of given world) w)
     (all : (i : ℕ) (st : State) → server_at world i ≡ Some st → IsConsistent st) (free : up_free world ≡ true) where
@@ -117,23 +105,7 @@ module _ (given : Opening) (z : ℕ) (w : World) (world : worlds.World) (inv : I
 module _ (given : Opening) (z : ℕ) (w : World) (world : worlds.World) (inv : Inv (beginning z given) w) (answers : ℕ → Bool) (answering : Answering (fixed_of given) world z w answers) where
   -- of the voting members that answer none shows a newer prefix
   pub none_newer : (prefix : Prefix) → newer_by (fixed_of given) world answers z prefix ≡ None → (i : ℕ) → voting prefix.votes.reps answers i ≡ true → (effect w i).prefix.pver ≤ prefix.pver
-  none_newer prefix none i is =
-      let parts = and_parts (answers i) (has_vote prefix.votes.reps i) is in
-      let some = any_has (λ (rep : Representative). (rep.0 == i) && nat_lt 0 rep.1) prefix.votes.reps parts.1 in
-      let votes = and_parts (some.0.0 == i) (nat_lt 0 some.0.1) some.2 in
-      let same = eqb-true some.0.0 i votes.0 in
-      let not_so = find_none (shows_newer_by (fixed_of given) world answers z prefix) prefix.votes.reps some.0 (not_found (find (shows_newer_by (fixed_of given) world answers z prefix) prefix.votes.reps) none) some.1 in
-      let less = not_less (nat_lt 0 some.0.1) (answers some.0.0) (nat_lt prefix.pver (shown_at (fixed_of given) world z some.0.0).pver) votes.1 (ap answers same ∙ parts.0) not_so in
-      subst (λ (shown : Prefix). shown.pver ≤ prefix.pver) (ap (λ i. shown_at (fixed_of given) world z i) same ∙ sym (answering.stored i parts.0)) (ltb-false prefix.pver (shown_at (fixed_of given) world z some.0.0).pver less)
-    where
-      not_found : (found : Option Representative) → option_map (λ (rep : Representative). shown_at (fixed_of given) world z rep.0) found ≡ None → found ≡ None
-      not_found None is = refl
-      not_found (Some rep) is = absurd (none-some _ (sym is))
-
-      not_less : (a b c : Bool) → a ≡ true → b ≡ true → (a && b && c) ≡ false → c ≡ false
-      not_less true true c is also none = none
-      not_less true false c is also none = absurd (false≢true also)
-      not_less false b c is also none = absurd (false≢true is)
+  none_newer prefix none i is = search (and_parts, any_has, nat_lt, eqb-true, find_none, ltb-false, none-some, false≢true, arith)
 
   pub found_is_row : (prefix : Prefix) → WasPrefix (beginning z given) w.log prefix → newer_by (fixed_of given) world answers z prefix ≡ None → IsQuorum prefix.votes answers → prefix ≡ (row (beginning z given) w.log).prefix
   found_is_row prefix was none quorum =

@@ -1,8 +1,7 @@
 -- Once all servers are up and each was swept, no server has a lock.
-use Rattle.law_run_recovers.proofs.Vocabulary.{◌≡◌, inl, ℕ, zero, suc, ◌<◌, ◌+◌, Bool, true, false, cond, List, [], ◌∷◌, ◌++◌, length, Option, Some, None, is_some, refl, sym, ap, ◌∙◌, arith, ◌==◌, ◌%◌, ◌/◌, ◌&&◌, ◌*◌, not, nat_lt}
-use Rattle.law_run_recovers.proofs.Vocabulary.{slice_get, list_all, mod-lt, false≢true, and_parts, and_right, ltb-true, slice_get_within, Opening, Lock, has_prepared, State, all_at, home_of, Job, Sweep, fixed_of, is_idle, has_sense}
-use Rattle.law_run_recovers.proofs.Vocabulary.{max_jobs, Event, Begin, Actor, World, actor_at, step, after, run, begins_now, so_many, begins_job, with_job, at_has, unhindered_from, all_up, up_in, is_up, locks_in, locks_at, is_in_doubt}
-use Rattle.law_run_recovers.proofs.Vocabulary.{sweeps, goes_round, Always, NoLockIsLeftAt}
+use Rattle.law_run_recovers.proofs.Vocabulary.{◌≡◌, inl, ℕ, zero, suc, ◌<◌, ◌+◌, Bool, true, false, cond, List, [], ◌∷◌, ◌++◌, length, Option, Some, None, is_some, refl, sym, ap, ◌∙◌, arith, ◌==◌, ◌&&◌, ◌*◌, nat_lt, slice_get, list_all, mod-lt}
+use Rattle.law_run_recovers.proofs.Vocabulary.{false≢true, and_parts, and_right, ltb-true, slice_get_within, Opening, Lock, State, all_at, Job, Sweep, fixed_of, is_idle, has_sense, max_jobs, Event, Begin, Actor, World, actor_at, step, after, run}
+use Rattle.law_run_recovers.proofs.Vocabulary.{begins_now, so_many, begins_job, with_job, at_has, unhindered_from, all_up, up_in, is_up, locks_in, locks_at, is_in_doubt, sweeps, goes_round, Always, NoLockIsLeftAt}
 use Rattle.law_run_recovers.proofs.Doubts.{filter_none}
 use Rattle.law_run_recovers.proofs.Rounds.{Ends, ends}
 
@@ -51,9 +50,7 @@ no_lock_is_left given events agent sweep_run can up goes all =
         sense job (Some actor) is = of (is_idle actor.agent.doing) (has_sense (fixed_of given) job) (nat_lt actor.agent.count max_jobs) is
           where
             of : (a b c : Bool) → is_some (with_job job (cond (a && b && c) (Some (64 * actor.agent.count + agent)) None)) ≡ true → b ≡ true
-            of a true c is = refl
-            of true false c is = absurd (false≢true is)
-            of false false c is = absurd (false≢true is)
+            of a b c h3 = search (false≢true, arith)
 
     whole : Ends given agent (run given events) events sweep_run
     whole = ends given agent (run given events) sweep_run events (record { ups = λ x. refl; locks = λ x. inl refl }) goes (every (run given events) sweep_run goes)
@@ -62,5 +59,4 @@ no_lock_is_left given events agent sweep_run can up goes all =
     some_servers = let some = can.accepted.some_servers.0 in omega (arith, some)
 
     certain : (lock : Lock) (locks : List Lock) → is_in_doubt (fixed_of given) (run given events) locks lock ≡ false
-    certain lock locks = and_right (has_prepared lock.t locks) (not (is_up first (home_of (fixed_of given).service lock.t)))
-        (ap not (is_up_of given events up (home_of (fixed_of given).service lock.t) (mod-lt (lock.t % 64 + lock.t / 64) some_servers)))
+    certain lock locks = search (and_right, first, is_up_of, mod-lt, some_servers, arith)

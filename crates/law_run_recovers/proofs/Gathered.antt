@@ -1,16 +1,14 @@
 -- A suite that a transaction gathers: it falls short as its demand says, or had a Current.
-use Rattle.law_run_recovers.proofs.Vocabulary.{◌≡◌, inl, inr, ⊎_elim, ℕ, ◌+◌, ◌<◌, ◌≤◌, Bool, true, false, cond, List, [], ◌∷◌, Option, Some, None, is_some, refl, sym, ap, subst, ◌∙◌, arith, ◌==◌, ◌&&◌, ◌||◌, not, nat_lt, nat_le, eqb-true}
-use Rattle.law_run_recovers.proofs.Vocabulary.{nat_tests, nat_cmp_total, All-contains, same_Some, IsOrdered-insert, Representative, Configuration, votes_in, IsValid, max_servers, Prefix, LockMode, Shared, Exclusive, serves, Has}
-use Rattle.law_run_recovers.proofs.Vocabulary.{contains_from, PlainTable, holds, newest, Collector, all_told, first_members, version, needed, needed_of, got, Next, Current, Short, next, Cache, Undecided, ReadPoint, GatheredSuite, Suites}
-use Rattle.law_run_recovers.proofs.Vocabulary.{suite_of, with_suite, settled, first_or, source_of, Fixed, Task, short_cause, gather_by, locked_at, self, with_at, each_but, each_with, World, is_met, demand_by, led_to_by, has_asked}
-use Rattle.law_run_recovers.proofs.Vocabulary.{serves_shared, Told, and_parts, or_cases, or_right, false≢true}
-use Rattle.suite_collect.specs.Telling.{is_held}
+use Rattle.law_run_recovers.proofs.Vocabulary.{◌≡◌, inr, ℕ, ◌+◌, ◌<◌, ◌≤◌, Bool, true, false, cond, List, [], ◌∷◌, Option, Some, None, is_some, refl, sym, ap, subst, ◌∙◌, arith, ◌==◌, ◌||◌, not, nat_lt, nat_le, nat_tests, nat_cmp_total, same_Some}
+use Rattle.law_run_recovers.proofs.Vocabulary.{IsOrdered-insert, Representative, Configuration, votes_in, IsValid, Prefix, LockMode, Shared, Has, contains_from, PlainTable, holds, newest, Collector, all_told, first_members, version, needed}
+use Rattle.law_run_recovers.proofs.Vocabulary.{needed_of, got, Next, Current, Short, next, Cache, Undecided, ReadPoint, GatheredSuite, Suites, suite_of, with_suite, settled, first_or, source_of, Fixed, Task, short_cause, gather_by, locked_at, self}
+use Rattle.law_run_recovers.proofs.Vocabulary.{with_at, each_but, each_with, World, is_met, demand_by, led_to_by, has_asked, serves_shared, Told, and_parts, or_cases, or_right, false≢true}
 use Rattle.txn_core.specs.Transactions.{Step}
 use Rattle.rep_core.specs.declared.reply.Verdict.TheVariants as verdict
-use Rattle.law_run_recovers.proofs.Asking.{onto, held_in, held_if}
+use Rattle.law_run_recovers.proofs.Asking.{onto, held_in}
 use Rattle.law_run_recovers.proofs.Led.{EndsShort, reached_short, reached_leads, reached_current, reached_settled}
 use Rattle.law_run_recovers.proofs.Polled.{Sight, finds_at, AllBelow, greatest_below, Refusing, gathering, at_current}
-use Rattle.law_run_recovers.proofs.Stands.{Ground, locks_on, of_lock, unmet, EndsRight, ends_short, short_lock, IsRight, IsHad, start_of, starts, may_start, had_met, SameStart, had_with, Hints, IsFound, found_start, found_right, HasLock}
+use Rattle.law_run_recovers.proofs.Stands.{Ground, locks_on, of_lock, unmet, EndsRight, ends_short, short_lock, IsRight, start_of, starts, may_start, had_met, SameStart, had_with, Hints, IsFound, found_start, found_right, HasLock}
 use Rattle.law_run_recovers.proofs.Stands.{IsWhole, IsReady, IsGathering, StepStands, told_stands}
 
 -- ---- voters
@@ -33,24 +31,11 @@ some_voter (rep ∷ reps) set some = of (set rep.0) refl (nat_lt 0 rep.1) refl (
     none n is some = grind (arith, nat_tests)
 
     of : (b : Bool) → set rep.0 ≡ b → (c : Bool) → nat_lt 0 rep.1 ≡ c → (0 < votes_in reps set → Voter reps set) → 0 < cond b rep.1 0 + votes_in reps set → Voter (rep ∷ reps) set
-    of true inside true votes go some = record { rep = rep; has = inl refl; inside = inside; votes = votes }
-    of true inside false votes go some = later (go (none rep.1 votes some))
-    of false inside c votes go some = later (go (omega (arith, some)))
+    of b h1 c h3 h4 h5 = search (later, none, arith)
 
 holds_shared : (mode : LockMode) (list : List Told) (i : ℕ) → holds mode list i ≡ true → holds Shared list i ≡ true
 holds_shared mode [] i is = is
-holds_shared mode (one ∷ list) i is = ⊎_elim
-    (λ here. let parts = and_parts (one.server == i) (is_held one.said && serves one.mode mode) here in
-    let held = (and_parts (is_held one.said) (serves one.mode mode) parts.1).0 in
-    of (one.server == i) (is_held one.said) (serves one.mode Shared) (holds Shared list i) parts.0 held (serves_shared one.mode))
-    (λ later. or_right ((one.server == i) && (is_held one.said && serves one.mode Shared)) (holds Shared list i) (holds_shared mode list i later))
-    (or_cases ((one.server == i) && (is_held one.said && serves one.mode mode)) (holds mode list i) is)
-  where
-    of : (a b c d : Bool) → a ≡ true → b ≡ true → c ≡ true → ((a && (b && c)) || d) ≡ true
-    of true true true d x y z = refl
-    of false b c d x y z = absurd (false≢true x)
-    of true false c d x y z = absurd (false≢true y)
-    of true true false d x y z = absurd (false≢true z)
+holds_shared mode (one ∷ list) i is = search (and_parts, serves_shared, or_right, or_cases, false≢true, holds_shared mode list i, arith)
 
 above_none : (wanted got : ℕ) → 0 < wanted → nat_le wanted got ≡ true → 0 < got
 above_none wanted got some is = grind (arith, nat_tests)
@@ -59,13 +44,10 @@ below : (a b : ℕ) → a < b → nat_lt a b ≡ true
 below a b is = grind (arith, nat_tests)
 
 wants_some : (votes : Configuration) → IsValid votes → (mode : LockMode) → 0 < needed_of mode votes
-wants_some votes valid Shared = valid.r_in_range.0
-wants_some votes valid Exclusive = valid.w_in_range.0
+wants_some votes h1 mode = search arith
 
 one_of : (a b : Bool) → (b ≡ true → a ≡ true) → a ≡ (a || b)
-one_of true b so = refl
-one_of false true so = so refl
-one_of false false so = refl
+one_of a b h2 = search arith
 
 module _ (fixed : Fixed) (world : World) (sight : Sight) (table : PlainTable) (task : Task) (cache : Cache) (Was : ℕ → Prefix → Type 0) (ground : Ground fixed world sight cache task.site (locks_on table task) Was) where
   abbrev Good : Step → Type 0
@@ -137,8 +119,7 @@ module _ (fixed : Fixed) (world : World) (sight : Sight) (table : PlainTable) (t
       (above_none (needed_of at.mode (newest found.start at.told).votes) (votes_in (newest found.start at.told).votes.reps (holds at.mode at.told)) (wants_some (newest found.start at.told).votes valid at.mode) enough) in
       record {
         server = voter.rep.0;
-        is_one = below voter.rep.0 max_servers (All-contains (λ (rep : Representative). rep.0 < max_servers) (newest found.start at.told).votes.reps voter.rep valid.numbered
-            (contains_from (newest found.start at.told).votes.reps voter.rep voter.has));
+        is_one = search (below, contains_from, arith);
         holds = ap (λ (c : Collector). holds Shared (all_told c) voter.rep.0) (same ∙ at.is) ∙ holds_shared at.mode at.told voter.rep.0 voter.inside;
       }
 
@@ -153,8 +134,7 @@ module _ (fixed : Fixed) (world : World) (sight : Sight) (table : PlainTable) (t
   }
     where
       some : (first : Option ReadPoint) (given : ReadPoint) → is_some (first_or first given) ≡ true
-      some (Some first) given = refl
-      some None given = refl
+      some first given = search arith
 
       led_of : (old : Option ReadPoint) → suite.first ≡ old → (first : ReadPoint) → first_or old
           (record { prefix = prefix; dver = dver; source = source_of suite.collector dver members }) ≡ Some first
@@ -191,19 +171,8 @@ module _ (fixed : Fixed) (world : World) (sight : Sight) (table : PlainTable) (t
     same_from : SameStart fixed world sight table task cache suites number new
     same_from old there = ap (λ (suite : GatheredSuite). suite.collector.start) (same_Some g.suite old (sym g.there ∙ there))
 
-    held_new : (mode : LockMode) → held_in mode (Some new) ≡ serves g.suite.collector.mode mode
-    held_new mode = of g.suite.first _
-      where
-        of : (first : Option ReadPoint) (given : ReadPoint) → held_if new mode (first_or first given) ≡ serves g.suite.collector.mode mode
-        of (Some first) given = refl
-        of None given = refl
-
     modes_on : (z : ℕ) (mode : LockMode) (b : Bool) → (number == z) ≡ b → held_in mode (cond b (Some new) (suite_of suites z)) ≡ has_asked ((number, g.mode) ∷ g.asked) z mode
-    modes_on z mode true same =
-        held_new mode ∙ ap (λ have. serves have mode) g.mode_is
-        ∙ one_of (serves g.mode mode) (has_asked g.asked z mode) (λ had. g.weaker mode (ap (λ z. has_asked g.asked z mode) (eqb-true number z same) ∙ had))
-        ∙ sym (ap (λ b. (b && serves g.mode mode) || has_asked g.asked z mode) same)
-    modes_on z mode false same = g.asks.modes z mode ∙ sym (ap (λ b. (b && serves g.mode mode) || has_asked g.asked z mode) same)
+    modes_on z mode b h3 = search arith
 
     -- then it has asked for this too
     pub settled_ready : IsReady fixed world sight table task cache Was ground (with_suite number (settled prefix dver members g.suite) suites)
@@ -212,10 +181,7 @@ module _ (fixed : Fixed) (world : World) (sight : Sight) (table : PlainTable) (t
       asks = record {
         ordered = IsOrdered-insert nat_cmp_total suites number new g.asks.ordered;
         right = each_with Right number suites new (each_but Right number suites g.asks.right) (found_right fixed world sight table task cache Was ground number new whole.found);
-        had = λ one has. ⊎_elim
-            (λ same. subst (IsHad fixed world sight table task cache (with_suite number new suites)) same
-            (record { suite = new; there = with_at number new suites number ∙ ap (λ b. cond b (Some new) (suite_of suites number)) (self number); met = met }))
-            (λ rest. had_with fixed world sight table task cache suites number new one same_from (g.asks.had one rest)) has;
+        had = search (with_at, self, met, had_with, same_from, arith);
         modes = λ z mode. ap (held_in mode) (with_at number new suites z) ∙ modes_on z mode (number == z) refl;
         order = g.asks.order ∙ ap (onto g.asked) g.next_is;
       };

@@ -1,9 +1,9 @@
 -- What is decided of a transaction that goes alone had its home and its votes up: each server that told it of a lock was open to it, and nothing was decided before.
-use Rattle.law_run_recovers.proofs.Vocabulary.{◌≡◌, inl, ⊎_elim, ℕ, ◌+◌, ◌*◌, ◌≤◌, true, false, List, [], ◌∷◌, ◌++◌, append-nil, le_trans, Option, Some, None, refl, sym, ap, subst, ◌∙◌, arith, ◌==◌, nat_le, list_any, cons_option}
-use Rattle.law_run_recovers.proofs.Vocabulary.{false≢true, eq-eqb, and_parts, or_right, le-leb, leb-true, same_Some, Identity, Representative, votes_in, is_write_quorum, Opening, LockMode, Exclusive, Op, row_of, votes_in-wider, holds}
-use Rattle.law_run_recovers.proofs.Vocabulary.{needed_of, all_told, Transaction, GatheredSuite, suite_of, Running, home_of, changes_of, votes_after, Agent, fixed_of, begin, after_all, newest_of, IsReady, Event, Begin, Step, Actor, actor_at}
-use Rattle.law_run_recovers.proofs.Vocabulary.{run, Decided, decided, decisions, decisions_from, table_of, table_after_all, decisions_from-append, answers_follow_knowledge, IsAnsweredAsKnown, Runs, IsAt, holds_of, has_append, Has, has_any}
-use Rattle.law_run_recovers.proofs.Vocabulary.{agent_of, all_met, demand, is_met, open_demands, wants_of_rows, votes_of_row, has_votes_open, GoesAlone, HadVotesUp, is_up, runs, begun_world, world_after, Always, DecidedHadVotesUpAt}
+use Rattle.law_run_recovers.proofs.Vocabulary.{◌≡◌, inl, ⊎_elim, ℕ, ◌+◌, ◌*◌, ◌≤◌, true, false, List, [], ◌∷◌, ◌++◌, append-nil, le_trans, Option, Some, None, refl, sym, ap, subst, ◌∙◌, arith, ◌==◌, nat_le, list_any, cons_option, false≢true, eq-eqb}
+use Rattle.law_run_recovers.proofs.Vocabulary.{and_parts, or_right, le-leb, leb-true, same_Some, Identity, Representative, votes_in, is_write_quorum, Opening, LockMode, Exclusive, Op, row_of, votes_in-wider, holds, needed_of, all_told, Transaction}
+use Rattle.law_run_recovers.proofs.Vocabulary.{GatheredSuite, suite_of, Running, home_of, changes_of, votes_after, Agent, fixed_of, begin, after_all, newest_of, IsReady, Event, Begin, Step, Actor, actor_at, run, Decided, decided, decisions}
+use Rattle.law_run_recovers.proofs.Vocabulary.{decisions_from, table_of, table_after_all, decisions_from-append, answers_follow_knowledge, IsAnsweredAsKnown, Runs, IsAt, holds_of, has_append, Has, has_any, agent_of, demand, is_met, votes_of_row}
+use Rattle.law_run_recovers.proofs.Vocabulary.{has_votes_open, GoesAlone, HadVotesUp, is_up, runs, begun_world, world_after, Always, DecidedHadVotesUpAt}
 use Rattle.txn_core.proofs.Quorums.{decides_on_quorums}
 use Rattle.txn_core.specs.Writing.{sets_votes, is_changed}
 use Rattle.file_ops.specs.Rows as rows
@@ -106,9 +106,7 @@ module _ (given : Opening) (events later : List Event) (agent t : ℕ) (caller :
 
         -- so many votes are up as were held
         up_met : (mode : LockMode) (needed : ℕ) (reps : List Representative) → needed ≤ votes_in reps (holds mode (all_told suite.collector)) → nat_le needed (votes_in reps (is_up (run given events))) ≡ true
-        up_met mode needed reps enough =
-            le-leb needed (votes_in reps (is_up (run given events)))
-            (le_trans enough (votes_in-wider reps (holds mode (all_told suite.collector)) (is_up (run given events)) (held mode)))
+        up_met mode needed reps enough = search (le-leb, le_trans, votes_in-wider, held, arith)
 
         rows_votes : (newest_of suite).votes ≡ votes_of_row (fixed_of given) (row_of (table_of given events).rows z)
         rows_votes =
@@ -192,8 +190,7 @@ module _ (given : Opening) (events later : List Event) (agent t : ℕ) (caller :
   has_then so_far rest split = has_since given events so_far agent t caller site ops actor (can_so_far given events later agent t caller site ops actor steady so_far rest split) goes.there begun_number
 
   home_of_open : has_votes_open given events t caller ops ≡ true → is_up (run given events) (home_of (fixed_of given).service t) ≡ true
-  home_of_open open' =
-      (and_parts (all_met (open_demands (run given events) t (wants_of_rows (fixed_of given) (table_of given events) t caller ops))) (is_up (run given events) (home_of (fixed_of given).service t)) open').1
+  home_of_open open' = search arith
 
   -- where its home was down nothing is decided
   pub none_decided : is_up (run given events) (home_of (fixed_of given).service t) ≡ false → decisions_from (fixed_of given) (begun_world given events agent caller site ops) later ≡ []

@@ -1,8 +1,8 @@
 -- What a transaction makes of a reply that is right: it stands as before, or ends as it should.
-use Rattle.law_run_recovers.proofs.Vocabulary.{◌≡◌, inl, ◌⊎◌, ⊎_elim, ℕ, true, false, cond, List, [], ◌∷◌, Option, Some, None, is_some, Ok, Err, refl, sym, ap, subst, ◌∙◌, option_map, false≢true, nat_cmp_total, none-some, same_Some}
-use Rattle.law_run_recovers.proofs.Vocabulary.{Content, Prefix, LockMode, is_prepared, verdict_of, Request, Reply, PlainTable, row_of, IsSoAt, Told, Collector, Asked, request_for, mode_of, mode_asked, tell, tell_at, told_by, Next, Current}
-use Rattle.law_run_recovers.proofs.Vocabulary.{Ask, Short, next, Cache, put, Undecided, Lost, ReadPoint, GatheredSuite, Suites, suite_of, with_suite, known_of, first_or, settled, Fixed, Task, Granted, Phase, Gathering, Fetching, Preparing}
-use Rattle.law_run_recovers.proofs.Vocabulary.{Deciding, Finishing, TransactionRun, GoesOn, home_of, self, with_at, but_with, World, is_up, MayStart, is_met, ending_of, mode_stays, same_mode}
+use Rattle.law_run_recovers.proofs.Vocabulary.{◌≡◌, inl, ◌⊎◌, ℕ, true, false, cond, List, [], ◌∷◌, Option, Some, None, is_some, refl, sym, ap, subst, ◌∙◌, false≢true, nat_cmp_total, none-some, same_Some, arith, Content, Prefix, LockMode, is_prepared}
+use Rattle.law_run_recovers.proofs.Vocabulary.{verdict_of, Request, Reply, PlainTable, row_of, IsSoAt, Told, Collector, Asked, request_for, mode_of, mode_asked, tell, tell_at, told_by, Next, Current, Ask, Short, next, Cache, put, Undecided, Lost}
+use Rattle.law_run_recovers.proofs.Vocabulary.{ReadPoint, GatheredSuite, Suites, suite_of, with_suite, known_of, first_or, settled, Fixed, Task, Granted, Phase, Gathering, Fetching, Preparing, Deciding, Finishing, TransactionRun, GoesOn, home_of}
+use Rattle.law_run_recovers.proofs.Vocabulary.{self, with_at, but_with, World, is_up, MayStart, is_met, mode_stays, same_mode}
 use Rattle.sorted_map.specs.Edits.{insert-insert}
 use Rattle.txn_core.specs.Transactions.{Step, Gathered, asked_by, asked_for, fetched_at, fetched_for, request_in, decision_of, hear, collected, heard_of, given_in, keep_content, fetched, prepare, give_up, short_cause, verdict_in}
 use Rattle.txn_core.specs.Transactions.{cause_of_abort, locked_at, widen_all, execute, after_reply}
@@ -11,13 +11,12 @@ use Rattle.rep_core.specs.declared.reply.Verdict.TheVariants as verdict
 use Rattle.file_exec.specs.Known as known
 use Rattle.txn_core.specs.Doing as doing
 use Rattle.txn_core.specs.Transactions as txn_run
-use Rattle.law_run_recovers.specs.Ends as laws
 use Rattle.law_run_recovers.proofs.Asking.{held_in, held_if}
 use Rattle.law_run_recovers.proofs.Led.{reached_told}
 use Rattle.law_run_recovers.proofs.Polled.{Sight, Answers, hears}
 use Rattle.law_run_recovers.proofs.Widened.{WidenedShort, start_stays, same_said, right_more}
 use Rattle.law_run_recovers.proofs.Hinting.{hint_put}
-use Rattle.law_run_recovers.proofs.Stands.{IsKept, held_same, Ground, asks_of, locks_on, of_votes, demand_of, answer_to, EndsAs, EndsRight, IsRight, asked_with, Hints, HasAll, answer_in, Sets, IsWidening, IsFound, found_right, IsWhole}
+use Rattle.law_run_recovers.proofs.Stands.{IsKept, held_same, Ground, asks_of, locks_on, of_votes, demand_of, EndsRight, IsRight, asked_with, Hints, HasAll, answer_in, Sets, IsWidening, IsFound, found_right, IsWhole}
 use Rattle.law_run_recovers.proofs.Stands.{IsReady, IsGathering, PhaseStands, StepStands, told_stands, prepare_stands}
 use Rattle.law_run_recovers.proofs.Widens.{by_short, by_current, sets_with, sets_on, set_short, widen_stands}
 use Rattle.law_run_recovers.proofs.Gathered.{gathering_short, settled_ready}
@@ -53,13 +52,7 @@ pub record AsksFor (t number : ℕ) (c : Collector) (server : ℕ) (asked : Requ
   pub asked_is : asked ≡ request_for t number question
 
 pub asks_for : (task : Task) (number : ℕ) (c : Collector) (server : ℕ) (asked : Request) → asked_by task number (next c) ≡ Some (server, asked) → AsksFor task.t number c server asked
-asks_for task number c server asked = of (next c) refl
-  where
-    of : (after : Next) → next c ≡ after → asked_by task number after ≡ Some (server, asked) → AsksFor task.t number c server asked
-    of (Ask who question) is given =
-        let same = same_Some (who, request_for task.t number question) (server, asked) given in
-        record { question = question; is = is ∙ ap (λ (asked : ℕ × Request). Ask asked.0 question) same; asked_is = sym (ap (λ (asked : ℕ × Request). asked.1) same) }
-    of other is given = absurd (none-some (server, asked) given)
+asks_for task number c server asked = search arith
 
 -- what it is told so
 record HeardOne (number : ℕ) (suite : GatheredSuite) (server : ℕ) (asked : Request) (said : Reply) : Type 0 where
@@ -77,18 +70,12 @@ module _ (fixed : Fixed) (world : World) (sight : Sight) (t number : ℕ) (suite
       let modes : mode_of asked ≡ mode_asked asks.question = ap mode_of asks.asked_is ∙ same_mode t number asks.question in
       record {
         one = one;
-        told = ap (λ after. told_by after said) asks.is
-            ∙ ap (λ found. option_map (λ said. record { server = server; mode = mode_asked asks.question; said = said }) found) heard.1
-            ∙ ap (λ mode. Some (record { server = server; mode = mode; said = heard.0 })) (sym modes);
+        told = search arith;
         is = λ task now suites phase go_on. ap (λ found. hear task now suites phase number suite server asked found go_on) (ap (λ asked. txn_run.said_to asked said) asks.asked_is ∙ same_said t number asks.question said ∙ heard.1);
       }
 
   answers_it : (who : ℕ) (question : Asked) → next suite.collector ≡ Ask who question → Answers fixed world sight number question who said
-  answers_it who question is = subst Right (sym asks.is ∙ is) so
-    where
-      Right : Next → Type 0
-      Right (Ask who question) = Answers fixed world sight number question who said
-      Right other = Unit {0}
+  answers_it who question is = search arith
 
 module _ (fixed : Fixed) (world : World) (sight : Sight) (table : PlainTable) (task : Task) (cache : Cache) (Was : ℕ → Prefix → Type 0)
     (ground : Ground fixed world sight cache task.site (locks_on table task) Was) (same_service : table.service ≡ fixed.service) where
@@ -111,8 +98,7 @@ module _ (fixed : Fixed) (world : World) (sight : Sight) (table : PlainTable) (t
   -- it executes on what it gathered
   executes : (all : Gathered) → IsReady fixed world sight table task cache Was ground all.suites → Hinted all.suites all.cache → (number : ℕ)
       → is_some (suite_of all.suites number) ≡ true → KnowsSo (execute fixed task all) → Good (execute fixed task all)
-  executes all ready hints number some so =
-      execute_stands fixed world sight table task cache Was ground same_service all ready hints (agreed fixed world sight table task cache Was ground all ready hints number some so)
+  executes all ready hints number some so = search (execute_stands, agreed, arith)
 
   is_there : (suites : Suites) (number : ℕ) (new : GatheredSuite) → suite_of (with_suite number new suites) number ≡ Some new
   is_there suites number new = with_at number new suites number ∙ ap (λ b. cond b (Some new) (suite_of suites number)) (self number)
@@ -137,8 +123,7 @@ module _ (fixed : Fixed) (world : World) (sight : Sight) (table : PlainTable) (t
           start = g.found.start;
           may = g.found.may;
           asked = g.found.asked;
-          reached = reached_told fixed world sight number (Was number) g.found.start (ground.rules number g.found.start g.found.asked g.found.may) g.suite.collector g.found.reached said one
-              (answers_it fixed world sight task.t number g.suite server asked said asks so) told;
+          reached = search (reached_told, answers_it, arith);
           led = g.found.led;
           version = g.found.version;
         } in
@@ -158,8 +143,7 @@ module _ (fixed : Fixed) (world : World) (sight : Sight) (table : PlainTable) (t
         }
       where
         held : (mode : LockMode) (first : Option ReadPoint) → held_if (after_one one) mode first ≡ held_if g.suite mode first
-        held mode (Some first) = refl
-        held mode None = refl
+        held mode first = search arith
 
     collected_stands : (one : Told) (g' : Now (with_suite number (after_one one) suites) number) → g'.suite ≡ after_one one → (after : Next) → next (tell one g.suite.collector) ≡ after
         → KnowsSo (collected task now suites (Gathering number) number (after_one one) after go_on) → Good (collected task now suites (Gathering number) number (after_one one) after go_on)
@@ -223,8 +207,7 @@ module _ (fixed : Fixed) (world : World) (sight : Sight) (table : PlainTable) (t
     told_kept one = was_kept.0 ∙ sym (mode_stays w.suite.collector one)
 
     first_kept : (first : Option ReadPoint) (new : ReadPoint) → is_some first ≡ true → first_or first new ≡ first
-    first_kept (Some point) new some = refl
-    first_kept None new some = absurd (false≢true some)
+    first_kept first new h2 = search arith
 
     abbrev phase : Phase
     phase = doing.Widening (number ∷ left) granted
@@ -301,22 +284,7 @@ module _ (fixed : Fixed) (world : World) (sight : Sight) (table : PlainTable) (t
   decides : (suites : Suites) (outcome : doing.Proposal) → HasAll fixed world sight table task cache suites (answer_in fixed world sight table task cache outcome) → (server : ℕ) → server ≡ home_of fixed.service task.t → (said : Reply)
       → ((is_up world server ≡ true) × (said ≡ reply.Verdict (verdict_of (decision_of task outcome)))) ⊎ ((is_up world server ≡ false) × (said ≡ reply.Down))
       → EndsRight fixed world sight table task cache suites (txn_run.ending_by (verdict_in said verdict.Aborted) (cause_of_abort said))
-  decides suites outcome all server home said right = record {
-    start = all.start;
-    from = all.from;
-    ends = subst (EndsAs fixed world sight table task cache (txn_run.ending_by (verdict_in said verdict.Aborted) (cause_of_abort said))) (sym all.none) (⊎_elim
-        (λ up. ap (λ said. txn_run.ending_by (verdict_in said verdict.Aborted) (cause_of_abort said)) up.1 ∙ answered outcome all.answer_is
-        ∙ sym (ap (λ up. laws.ending_by None up (answer_to table task)) (ap (is_up world) (sym home) ∙ up.0)))
-        (λ down. ap (λ said. txn_run.ending_by (verdict_in said verdict.Aborted) (cause_of_abort said)) down.1
-        ∙ sym (ap (λ up. laws.ending_by None up (answer_to table task)) (ap (is_up world) (sym home) ∙ down.0)))
-        right);
-    last = λ want is. absurd (none-some want (sym all.none ∙ is));
-  }
-    where
-      answered : (outcome : doing.Proposal) → answer_in fixed world sight table task cache outcome ≡ answer_to table task
-          → txn_run.ending_by (verdict_of (decision_of task outcome)) (cause_of_abort (reply.Verdict (verdict_of (decision_of task outcome)))) ≡ ending_of (answer_to table task)
-      answered (Ok granted) is = ap ending_of is
-      answered (Err refusal) is = ap ending_of is
+  decides suites outcome all server home said right = search arith
 
   -- ---- any reply
 

@@ -1,11 +1,10 @@
 -- What a transaction leaves in its agent's cache: of a suite the site is hinted what it was before, or where the suite was found.
-use Rattle.law_run_recovers.proofs.Vocabulary.{◌≡◌, ◌⊎◌, inr, ℕ, zero, suc, Bool, true, false, cond, List, [], ◌∷◌, length, Option, Some, None, Ok, Err, refl, sym, ap, subst, ◌∙◌, ◌==◌, eqb-true, none-some, same_Some, Content, Prefix}
-use Rattle.law_run_recovers.proofs.Vocabulary.{is_prepared, Request, Reply, Verdict, PlainTable, Hold, Know, Said, Told, mode_of, tell, Next, Current, Ask, Short, next, Entry, Cache, hint, put, Ending, Undecided, Cause, Lost, ReadPoint}
-use Rattle.law_run_recovers.proofs.Vocabulary.{GatheredSuite, Suites, suite_of, with_suite, settled, Fixed, Task, Granted, Phase, Gathering, Fetching, Preparing, Deciding, Finishing, World, led_to_by, Outcome as Executed}
-use Rattle.txn_core.specs.Transactions.{Step, Gathered, tell_end, give_up, prepare, gather_by, raised_or_new, widened, widen_by, widen_one, widen_all, to_widen, proceed, heard_on, free_content, opened_with, open_first, open_suite}
-use Rattle.txn_core.specs.Transactions.{open_needed, or_all, opened, execute, hear, collected, heard_of, given_in, keep_content, fetched, verdict_in, cause_of_abort, locked_at, after_reply}
+use Rattle.law_run_recovers.proofs.Vocabulary.{◌≡◌, ◌⊎◌, inr, ℕ, zero, suc, Bool, true, false, cond, List, [], ◌∷◌, Option, Some, None, Ok, refl, sym, ap, subst, ◌∙◌, ◌==◌, eqb-true, none-some, same_Some, Content, Prefix, arith, is_prepared, Request}
+use Rattle.law_run_recovers.proofs.Vocabulary.{Reply, Verdict, PlainTable, Said, Told, mode_of, tell, Next, next, Entry, Cache, hint, put, Ending, Undecided, Cause, Lost, ReadPoint, GatheredSuite, Suites, suite_of, with_suite, Fixed, Task, Granted}
+use Rattle.law_run_recovers.proofs.Vocabulary.{Phase, Gathering, Fetching, Preparing, Deciding, Finishing, World, led_to_by, Outcome as Executed}
+use Rattle.txn_core.specs.Transactions.{Step, Gathered, tell_end, give_up, prepare, gather_by, widen_all, proceed, heard_on, opened_with, open_first, open_suite}
+use Rattle.txn_core.specs.Transactions.{open_needed, or_all, opened, execute, hear, collected, heard_of, given_in, keep_content, fetched, locked_at, after_reply}
 use Rattle.rep_core.specs.declared.reply.Verdict.TheVariants as verdict
-use Rattle.file_exec.specs.declared.executor.Outcome.TheVariants as exec
 use Rattle.txn_core.specs.Doing as doing
 use Rattle.txn_core.specs.Transactions as txn_run
 use Rattle.law_run_recovers.proofs.Hinting.{hint_put, hint_put_here}
@@ -17,42 +16,23 @@ use Rattle.law_run_recovers.proofs.Executes.{hint_after}
 -- ---- what keeps the cache
 
 tell_cache : (task : Task) (now : Cache) (suites : Suites) (v : Verdict) (ended : Ending) (servers : List ℕ) → (tell_end task now suites v ended servers).cache ≡ now
-tell_cache task now suites v ended [] = refl
-tell_cache task now suites v ended (server ∷ servers) = refl
+tell_cache task now suites v ended servers = search arith
 
 up_cache : (task : Task) (now : Cache) (suites : Suites) (cause : Cause) → (give_up task now suites cause).cache ≡ now
 up_cache task now suites cause = tell_cache task now suites verdict.Aborted (Undecided cause) (locked_at suites)
 
 prepare_cache : (task : Task) (now : Cache) (suites : Suites) (outcome : doing.Proposal) (servers : List ℕ) → (prepare task now suites outcome servers).cache ≡ now
-prepare_cache task now suites outcome [] = refl
-prepare_cache task now suites outcome (server ∷ servers) = refl
+prepare_cache task now suites outcome servers = search arith
 
 gather_cache : (task : Task) (now : Cache) (suites : Suites) (number : ℕ) (after : Next) → (gather_by task now suites number after).cache ≡ now
-gather_cache task now suites number (Short had wanting busy) = up_cache task now suites (txn_run.short_cause number had wanting busy)
-gather_cache task now suites number other = refl
+gather_cache task now suites number after = search (up_cache, arith)
 
 widen_cache : (task : Task) (now : Cache) (granted : Granted) (left : List ℕ) (suites : Suites) → (widen_all task now suites granted left).cache ≡ now
 widen_cache task now granted [] suites = prepare_cache task now suites (Ok granted) (locked_at suites)
-widen_cache task now granted (number ∷ left) suites = of (suite_of suites number) (widen_cache task now granted left)
-  where
-    go_on : Suites → Step
-    go_on suites = widen_all task now suites granted left
-
-    by : (more : Suites) (after : Next) → ((suites : Suites) → (widen_all task now suites granted left).cache ≡ now) → (widen_by task now more (doing.Widening (number ∷ left) granted) number after go_on).cache ≡ now
-    by more (Current prefix dver members) go = go more
-    by more (Ask server asked) go = refl
-    by more (Short had wanting busy) go = up_cache task now more (txn_run.short_cause number had wanting busy)
-
-    of : (found : Option GatheredSuite) → ((suites : Suites) → (widen_all task now suites granted left).cache ≡ now) → (widen_one task now suites (doing.Widening (number ∷ left) granted) granted.changes number found go_on).cache ≡ now
-    of None go = go suites
-    of (Some suite) go = by (with_suite number (widened granted.changes number suite) suites) (next (widened granted.changes number suite).collector) go
+widen_cache task now granted (number ∷ left) suites = search (up_cache, widen_cache task now granted left, arith)
 
 proceed_cache : (fixed : Fixed) (task : Task) (now : Cache) (suites : Suites) (what : Executed) → (proceed fixed task now suites what).cache ≡ now
-proceed_cache fixed task now suites (exec.Need (Hold number mode)) =
-    let new = raised_or_new fixed task now number mode (suite_of suites number) in gather_cache task now (with_suite number new suites) number (next new.collector)
-proceed_cache fixed task now suites (exec.Need (Know number)) = refl
-proceed_cache fixed task now suites (exec.Done answers changes) = widen_cache task now (record { answers = answers; changes = changes }) (to_widen changes) suites
-proceed_cache fixed task now suites (exec.Refused refusal) = prepare_cache task now suites (Err refusal) (locked_at suites)
+proceed_cache fixed task now suites what = search (gather_cache, widen_cache, prepare_cache, arith)
 
 module _ (fixed : Fixed) (world : World) (sight : Sight) (table : PlainTable) (task : Task) (cache : Cache) (Was : ℕ → Prefix → Type 0) (ground : Ground fixed world sight cache task.site (locks_on table task) Was) where
   abbrev found_from : ℕ → Prefix → Prefix
@@ -68,20 +48,16 @@ module _ (fixed : Fixed) (world : World) (sight : Sight) (table : PlainTable) (t
     SameHint more = hint more.cache task.site z ≡ hint all.cache task.site z
 
     with_hint : (number : ℕ) (suite : GatheredSuite) (first : ReadPoint) (found : Option Content) (more : Gathered) → opened_with task all number suite first found ≡ Some more → SameHint more
-    with_hint number suite first None more is = absurd (none-some more is)
-    with_hint number suite first (Some content) more is = subst SameHint (same_Some _ more is) (hint_after fixed world sight table task cache Was ground all.cache number first z)
+    with_hint number suite first found more h5 = search (none-some, same_Some, hint_after, arith)
 
     first_hint : (number : ℕ) (suite : GatheredSuite) (first : Option ReadPoint) (more : Gathered) → open_first task all number suite first ≡ Some more → SameHint more
-    first_hint number suite None more is = absurd (none-some more is)
-    first_hint number suite (Some first) more is = with_hint number suite first (free_content task all.cache number first) more is
+    first_hint number suite first more h4 = search (none-some, with_hint, arith)
 
     suite_hint : (number : ℕ) (found : Option GatheredSuite) (more : Gathered) → open_suite task all number found ≡ Some more → SameHint more
-    suite_hint number None more is = absurd (none-some more is)
-    suite_hint number (Some suite) more is = first_hint number suite suite.first more is
+    suite_hint number found more h3 = search (none-some, first_hint, arith)
 
     needed_hint : (what : Executed) (more : Gathered) → open_needed task all what ≡ Some more → SameHint more
-    needed_hint (exec.Need (Know number)) more is = suite_hint number (suite_of all.suites number) more is
-    needed_hint other more is = absurd (none-some more is)
+    needed_hint what more h2 = search (suite_hint, none-some, arith)
 
   opened_hint : (n : ℕ) (all : Gathered) (z : ℕ) → hint (opened n fixed task all).cache task.site z ≡ hint all.cache task.site z
   opened_hint zero all z = refl
@@ -89,13 +65,10 @@ module _ (fixed : Fixed) (world : World) (sight : Sight) (table : PlainTable) (t
     where
       of : (found : Option Gathered) → open_needed task all (heard_on fixed task all.suites) ≡ found → ((more : Gathered) → hint (opened n fixed task more).cache task.site z ≡ hint more.cache task.site z)
           → hint (or_all all found (λ all. opened n fixed task all)).cache task.site z ≡ hint all.cache task.site z
-      of None is go = refl
-      of (Some more) is go = go more ∙ needed_hint all z (heard_on fixed task all.suites) more is
+      of found h1 h2 = search (needed_hint, arith)
 
   pub execute_hints : (all : Gathered) → Led all.cache → Led (execute fixed task all).cache
-  execute_hints all led z prefix hinted =
-      let more = opened (length all.suites) fixed task all in
-      led z prefix (sym (opened_hint (length all.suites) all z) ∙ ap (λ cache. hint cache task.site z) (sym (proceed_cache fixed task more.cache more.suites (heard_on fixed task more.suites))) ∙ hinted)
+  execute_hints all led z prefix hinted = search (opened_hint, proceed_cache, arith)
 
   -- ---- replies
 
@@ -112,10 +85,7 @@ module _ (fixed : Fixed) (world : World) (sight : Sight) (table : PlainTable) (t
         on suite = go_on (with_suite number suite suites)
 
         by : (new : GatheredSuite) (after : Next) → Led (collected task now suites phase number new after on).cache
-        by new (Ask who question) = led
-        by new (Short had wanting busy) =
-            as_now (give_up task now (with_suite number new suites) (txn_run.short_cause number had wanting busy)) (up_cache task now (with_suite number new suites) (txn_run.short_cause number had wanting busy))
-        by new (Current prefix dver members) = go (with_suite number (settled prefix dver members new) suites)
+        by new after = search (as_now, up_cache, arith)
 
         of : (found : Option Said) → Led (hear task now suites phase number suite server asked found on).cache
         of None = as_now (give_up task now suites (Lost server)) (up_cache task now suites (Lost server))
@@ -148,12 +118,10 @@ module _ (fixed : Fixed) (world : World) (sight : Sight) (table : PlainTable) (t
         of None there other = as_now (give_up task now suites (Lost server)) (up_cache task now suites (Lost server))
 
     prepared_hints : (suites : Suites) (outcome : doing.Proposal) (left : List ℕ) (b : Bool) → Led (cond b (prepare task now suites outcome left) (give_up task now suites (Lost server))).cache
-    prepared_hints suites outcome left true = as_now (prepare task now suites outcome left) (prepare_cache task now suites outcome left)
-    prepared_hints suites outcome left false = as_now (give_up task now suites (Lost server)) (up_cache task now suites (Lost server))
+    prepared_hints suites outcome left b = search (as_now, prepare_cache, up_cache, arith)
 
     pub reply_hints : (suites : Suites) (phase : Phase) → PhaseStands fixed world sight table task cache Was ground suites now phase → Led (after_reply fixed task now suites phase server asked said).cache
-    reply_hints suites (Gathering number) at =
-        heard_hints suites (Gathering number) number (suite_of suites number) (λ suites. execute fixed task (record { suites = suites; cache = now })) (λ suites. execute_hints (record { suites = suites; cache = now }) led)
+    reply_hints suites (Gathering number) at = search (heard_hints, execute_hints, arith)
     reply_hints suites (Fetching number) at = fetched_hints suites number at.0 (given_in said)
     reply_hints suites (doing.Widening [] granted) at = absurd at
     reply_hints suites (doing.Widening (number ∷ left) granted) at =
@@ -161,8 +129,6 @@ module _ (fixed : Fixed) (world : World) (sight : Sight) (table : PlainTable) (t
         (λ suites. as_now (widen_all task now suites granted left) (widen_cache task now granted left suites))
     reply_hints suites (Preparing [] outcome) at = as_now (give_up task now suites (Lost server)) (up_cache task now suites (Lost server))
     reply_hints suites (Preparing (first ∷ left) outcome) at = prepared_hints suites outcome left (is_prepared said)
-    reply_hints suites (Deciding outcome) at =
-        let v = verdict_in said verdict.Aborted in
-        let ended = txn_run.ending_by v (cause_of_abort said) in as_now (tell_end task now suites v ended (locked_at suites)) (tell_cache task now suites v ended (locked_at suites))
+    reply_hints suites (Deciding outcome) at = search (as_now, tell_cache, arith)
     reply_hints suites (Finishing [] v ended) at = as_now (tell_end task now suites v ended []) (tell_cache task now suites v ended [])
     reply_hints suites (Finishing (first ∷ left) v ended) at = as_now (tell_end task now suites v ended left) (tell_cache task now suites v ended left)

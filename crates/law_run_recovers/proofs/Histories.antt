@@ -1,5 +1,5 @@
 -- What one server served, in its order, was served so in the run.
-use Rattle.law_run_recovers.proofs.Vocabulary.{◌≡◌, ℕ, Bool, true, false, cond, List, [], ◌∷◌, ◌++◌, Option, Some, None, refl, ap, ◌∙◌, ◌==◌, cons_option, none-some, Served, done_in, finished_before, finished_changes_are_met}
+use Rattle.law_run_recovers.proofs.Vocabulary.{◌≡◌, ℕ, List, [], ◌∷◌, ◌++◌, Option, Some, None, refl, ap, ◌∙◌, cons_option, Served, done_in, finished_before, finished_changes_are_met, arith}
 use Rattle.law_run_recovers.specs.Histories.{if_at, served_at, FinishedBeforeAtServer, ChangesAreMetAtServer}
 use Rattle.run_core.specs.declared.done.Done.{Done}
 
@@ -25,12 +25,7 @@ nil_not [] what rest is = cc
 nil_not (one ∷ before) what rest is = cc
 
 served_there : (server : ℕ) (found : Option Served) (what : Served) → if_at server found ≡ Some what → found ≡ Some what
-served_there server None what is = absurd (none-some what is)
-served_there server (Some other) what is = of (other.server == server) is
-  where
-    of : (b : Bool) → cond b (Some other) None ≡ Some what → Some other ≡ Some what
-    of true is = is
-    of false is = absurd (none-some what is)
+served_there server found what h3 = search arith
 
 split : (server : ℕ) (all : List Done) (before : List Served) (what : Served) (rest : List Served) → served_at server all ≡ before ++ what ∷ rest → Split server all what rest
 split server [] before what rest is = absurd (nil_not before what rest is)

@@ -1,5 +1,5 @@
 -- Homes go round: of as many jobs in a row as there are servers one has each server as its home.
-use Rattle.law_run_recovers.proofs.Vocabulary.{◌≡◌, ⊎_elim, ℕ, ◌+◌, ◌*◌, ◌-◌, ◌<◌, ◌≤◌, ◌⊎◌, ap, ◌∙◌, arith, ◌%◌, ◌/◌, mod-lt, add-mod_right, Opening, home_of, fixed_of, rest_of, HomesGoRound}
+use Rattle.law_run_recovers.proofs.Vocabulary.{◌≡◌, ⊎_elim, ℕ, ◌+◌, ◌*◌, ◌-◌, ◌<◌, ◌≤◌, ◌⊎◌, ap, ◌∙◌, arith, ◌%◌, ◌/◌, mod-lt, add-mod_right, Opening, home_of, fixed_of, HomesGoRound}
 use Rattle.std.proofs.lemmas.Nat.{div-add-mod', mod-mul-add}
 
 place_of : (place index : ℕ) → index < 64 → (64 * place + index) / 64 ≡ place
@@ -7,12 +7,7 @@ place_of place index small = omega arith
 
 -- so many jobs later the home is this many servers on
 pub home_later : (given : Opening) (agent count more : ℕ) → agent < 64 → home_of (fixed_of given).service (64 * (count + more) + agent) ≡ (agent + count + more) % given.servers
-home_later given agent count more small =
-    ap (λ sum. sum % given.servers) (ap (λ rest. rest + (64 * (count + more) + agent) / 64) (rest_of (count + more) agent small)
-    ∙ ap (λ place. agent + place) (place_of (count + more) agent small) ∙ sums agent count more)
-  where
-    sums : (a c m : ℕ) → a + (c + m) ≡ a + c + m
-    sums a c m = omega arith
+home_later given agent count more small = search arith
 
 -- from a rest to a greater one, and to a smaller one, past the end
 record Reaches (a n server : ℕ) : Type 0 where
@@ -47,6 +42,4 @@ reaches a n server small =
     (le_or (a % n) server)
 
 pub homes_go_round : HomesGoRound
-homes_go_round given agent count server few small =
-    let way = reaches (agent + count) given.servers server small in
-    record { more = way.more; few = way.few; home = home_later given agent count way.more few ∙ way.is }
+homes_go_round given agent count server few small = search (reaches (agent + count) given.servers server small, home_later, arith)

@@ -1,14 +1,11 @@
 -- The votes that a job meets in a run are valid.
-use Rattle.law_run_recovers.proofs.Vocabulary.{◌≡◌, inl, inr, ⊎_elim, ℕ, Bool, true, false, cond, List, [], ◌∷◌, ◌++◌, append_assoc, Option, Some, None, refl, sym, ap, subst, ◌∙◌, arith, ◌==◌, ◌&&◌, is_some, Contains, IsValid, Opening}
-use Rattle.law_run_recovers.proofs.Vocabulary.{Request, Reply, Stamped, State, copy_of, reply_of, reply_up, reply_down, is_full, answer_of, Has, has_from, Response, Replied, Lacked, Fixed, Agent, Take, fixed_of, next_of, take, begin}
-use Rattle.law_run_recovers.proofs.Vocabulary.{forget, Exchange, exchange_of, exchanges, Event, Begin, Step, Forget, Lack, Served, EndedJob, World, Actor, server_at, actor_at, serve, answered, asks_at, asks, steps_once, step, run}
-use Rattle.law_run_recovers.proofs.Vocabulary.{ShowsValidVotes, VotesAreValid, has_append, CanBe, front, up_valid, copy_valid, cache_valid}
-use Rattle.law_agents.specs.RunBounds.{asks_now, told_of, told_at, told_in, EndsInItsTime, told_by}
+use Rattle.law_run_recovers.proofs.Vocabulary.{◌≡◌, inl, inr, ⊎_elim, ℕ, List, [], ◌∷◌, ◌++◌, append_assoc, Option, Some, None, refl, sym, ap, subst, ◌∙◌, arith, Contains, IsValid, Opening, Request, Reply, State, copy_of, reply_of, Has, has_from}
+use Rattle.law_run_recovers.proofs.Vocabulary.{Response, Replied, Fixed, Agent, Take, fixed_of, next_of, take, begin, forget, Exchange, exchange_of, exchanges, Event, Begin, Step, Forget, Served, EndedJob, World, Actor, server_at, serve, answered}
+use Rattle.law_run_recovers.proofs.Vocabulary.{step, run, ShowsValidVotes, VotesAreValid, has_append, CanBe, front, copy_valid, cache_valid}
+use Rattle.law_agents.specs.RunBounds.{told_of, told_at, told_in, EndsInItsTime}
 use Rattle.law_agents.proofs.RunBounds.{runs_end_in_time}
 use Rattle.law_run_alone.proofs.Exchanged.{TellsValid}
 use Rattle.law_run_recovers.specs.InTime.{RunsEndByTheBounds}
-use Rattle.rep_core.specs.declared.request.Request.TheVariants as request
-use Rattle.rep_core.specs.declared.reply.Reply.TheVariants as reply
 use Rattle.txn_core.specs.Agents as agents
 use Rattle.run_core.specs.Worlds as worlds
 use Rattle.run_core.proofs.Appending as going
@@ -16,19 +13,10 @@ use Rattle.run_core.proofs.Appending as going
 -- ---- what a server replies
 
 shows : (said : Reply) → TellsValid said → ShowsValidVotes said
-shows (reply.Held prefix dver) valid = valid
-shows _ valid = tt
-
-down_shows : (asked : Request) → ShowsValidVotes (reply_down asked)
-down_shows request.Return = tt
-down_shows _ = tt
+shows said h1 = search arith
 
 pub reply_shows : (st : State) (asked : Request) → ((suite : ℕ) → IsValid (copy_of st.store suite).prefix.votes) → ShowsValidVotes (reply_of st asked)
-reply_shows st asked valid = of st.up
-  where
-    of : (b : Bool) → ShowsValidVotes (cond b (reply_up st asked) (reply_down asked))
-    of true = shows (reply_up st asked) (up_valid st valid asked)
-    of false = down_shows asked
+reply_shows st asked valid = search arith
 
 -- ---- what an agent is told
 
@@ -54,47 +42,16 @@ module _ (given : Opening) (past : List Event) (can : CanBe given past) (world :
 
   served_shows : (i : ℕ) (actor : Actor) (asked : ℕ × Request) (st : State) → server_at world asked.0 ≡ Some st
       → ShowsServed (answered (fixed_of given) world i actor st (serve asked.0 st (record { stamp = actor.stamp; value = asked.1 }))).done.served
-  served_shows i actor asked st at = of (is_full st stamped)
-    where
-      stamped : Stamped Request
-      stamped = record { stamp = actor.stamp; value = asked.1 }
-
-      of : (b : Bool) → ShowsServed (answered (fixed_of given) world i actor st (cond b None (Some (record { server = asked.0; request = stamped; reply = answer_of st stamped })))).done.served
-      of true = tt
-      of false = reply_shows st asked.1 (valid_at asked.0 st at)
+  served_shows i actor asked st at = grind (reply_shows, valid_at, arith)
 
   step_shows : (i : ℕ) → ShowsServed (step (fixed_of given) world (Step i)).done.served
-  step_shows i = of (actor_at world i)
-    where
-      at : (actor : Actor) (asked : ℕ × Request) (found : Option State) → server_at world asked.0 ≡ found → ShowsServed (asks_at (fixed_of given) world i actor asked found).done.served
-      at actor asked None is = tt
-      at actor asked (Some st) is = served_shows i actor asked st is
-
-      by : (actor : Actor) (asked : Option (ℕ × Request)) → ShowsServed (asks (fixed_of given) world i actor asked).done.served
-      by actor None = tt
-      by actor (Some asked) = at actor asked (server_at world asked.0) refl
-
-      of : (found : Option Actor) → ShowsServed (steps_once (fixed_of given) world i found).done.served
-      of None = tt
-      of (Some actor) = by actor (next_of (fixed_of given) actor.agent)
-
-  by_shows : (found : Option State) (served : Option Served) → ShowsServed served → AllShow (told_by found served)
-  by_shows None served valid = tt
-  by_shows (Some st) None valid = (tt, tt)
-  by_shows (Some st) (Some what) valid = (valid, tt)
+  step_shows i = search (served_shows, arith)
 
   of_shows : (asked : Option (ℕ × Request)) (served : Option Served) → ShowsServed served → AllShow (told_of world asked served)
-  of_shows None served valid = tt
-  of_shows (Some asked) served valid = by_shows (server_at world asked.0) served valid
+  of_shows asked served h2 = search arith
 
   told_shows : (n : ℕ) (event : Event) → AllShow (told_at (fixed_of given) world n event)
-  told_shows n (Step i) = elim (i == n) as (λ b. AllShow (cond b (told_of world (asks_now (fixed_of given) (actor_at world n)) (step (fixed_of given) world (Step i)).done.served) [])) [
-    | true ↦ of_shows (asks_now (fixed_of given) (actor_at world n)) (step (fixed_of given) world (Step i)).done.served (step_shows i)
-    | false ↦ tt
-  ]
-  told_shows n (Forget i site) = elim (i == n) as (λ b. AllShow (cond b (agents.Forget site ∷ []) [])) [ true ↦ (tt, tt) | false ↦ tt ]
-  told_shows n (Lack i why) = elim ((i == n) && is_some (asks_now (fixed_of given) (actor_at world n))) as (λ b. AllShow (cond b (Take (Lacked why) ∷ []) [])) [ true ↦ (tt, tt) | false ↦ tt ]
-  told_shows n other = tt
+  told_shows n event = search (of_shows, step_shows, arith)
 
 all_told_show : (given : Opening) (past events : List Event) → CanBe given (past ++ events) → (world : World) → run given past ≡ world → (n : ℕ) → AllShow (told_in (fixed_of given) world n events)
 all_told_show given past [] can world is n = tt
@@ -133,10 +90,7 @@ valid_in_run given events outcome can ends = record {
     mine = Begin outcome.agent ends.job ∷ ends.between ++ ends.last ∷ []
 
     parts : events ≡ (ends.before ++ mine) ++ ends.later
-    parts =
-        ends.split
-        ∙ sym (append_assoc (ends.before ++ Begin outcome.agent ends.job ∷ ends.between) (ends.last ∷ []) ends.later)
-        ∙ ap (λ front. front ++ ends.later) (append_assoc ends.before (Begin outcome.agent ends.job ∷ ends.between) (ends.last ∷ []))
+    parts = search (append_assoc, front, arith)
 
     can_mine : CanBe given (ends.before ++ mine)
     can_mine = front given (ends.before ++ mine) ends.later (subst (CanBe given) parts can)

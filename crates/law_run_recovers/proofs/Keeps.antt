@@ -1,17 +1,16 @@
 -- While a transaction goes among locks that stay, and until its end is fixed, what near servers have stored of its suites stays where they are open to it.
-use Rattle.law_run_recovers.proofs.Vocabulary.{◌≡◌, ℕ, ◌+◌, ◌≤◌, Bool, true, false, cond, List, [], ◌∷◌, ◌++◌, Option, Some, None, refl, sym, ap, subst, ◌∙◌, arith, ◌*◌, ◌==◌, ◌&&◌, ◌||◌, not, nat_lt, Contains, list_any, false≢true}
-use Rattle.law_run_recovers.proofs.Vocabulary.{eqb-true, eq-eqb, nat_tests, none-some, same_Some, Identity, Opening, Replica, LockMode, Exclusive, Op, Lock, Verdict, Request, copy_of, State, is_full, answer_of, Job, Transaction, Response}
-use Rattle.law_run_recovers.proofs.Vocabulary.{Lacked, Fixed, Doing, Running, RunningSweep, Phase, Finishing, is_finish, Agent, fixed_of, is_idle, has_sense, max_jobs, begin, started, forget, take, take_in, next_of, Served, Event, Begin}
-use Rattle.law_run_recovers.proofs.Vocabulary.{Step, Crash, Return, Forget, Lack, Actor, World, server_at, actor_at, becomes, serve, operated, operates, asks_at, asks, answered, steps_once, lacks_for, lacks, step, Decided, decisions, after}
-use Rattle.law_run_recovers.proofs.Vocabulary.{run, IsAt, take_keeps, holds_of, agent_of, agent_at, CanBe, begins_job, all_consistent, asks_for, is_open_way, way_in, is_open_at, runs, running_in, is_running, is_told, tells, telling_in}
-use Rattle.law_run_recovers.proofs.Vocabulary.{is_telling, world_after, takes, up_and, of_up, robs, hinders_itself, GoesAmongLocks, shows_same, SameWay, told_as_first, AsAtItsBegin}
+use Rattle.law_run_recovers.proofs.Vocabulary.{◌≡◌, ℕ, ◌+◌, ◌≤◌, Bool, true, false, List, [], ◌∷◌, ◌++◌, Option, Some, None, refl, sym, ap, subst, ◌∙◌, arith, ◌*◌, ◌==◌, ◌&&◌, ◌||◌, not, Contains, list_any, false≢true, eqb-true, nat_tests, none-some}
+use Rattle.law_run_recovers.proofs.Vocabulary.{same_Some, Identity, Opening, LockMode, Exclusive, Op, Lock, Verdict, Request, copy_of, State, Job, Transaction, Response, Lacked, Fixed, Doing, Phase, is_finish, Agent, fixed_of, begin, forget, take}
+use Rattle.law_run_recovers.proofs.Vocabulary.{next_of, Served, Event, Begin, Step, Crash, Return, Forget, Lack, Actor, World, server_at, actor_at, becomes, operates, asks, steps_once, lacks, step, Decided, decisions, after, run, IsAt, holds_of}
+use Rattle.law_run_recovers.proofs.Vocabulary.{agent_of, agent_at, CanBe, begins_job, all_consistent, asks_for, is_open_way, way_in, is_open_at, runs, is_running, is_told, is_telling, world_after, takes, up_and, of_up, robs, hinders_itself}
+use Rattle.law_run_recovers.proofs.Vocabulary.{GoesAmongLocks, SameWay, told_as_first, AsAtItsBegin}
 use Rattle.law_runs.proofs.Each.{new_of, each_event}
 use Rattle.rep_core.specs.declared.stamped.Lack.{Lack as Why}
 use Rattle.rep_core.specs.declared.request.Request.TheVariants as request
 use Rattle.run_core.specs.Worlds as worlds
 use Rattle.law_run_recovers.proofs.Serves.{Serves}
-use Rattle.law_run_recovers.proofs.Still.{IsOpen, IsOpenPhase, open_before, open_next}
-use Rattle.law_run_recovers.proofs.Open.{begun_there, begun_servers, its_begin}
+use Rattle.law_run_recovers.proofs.Still.{IsOpen, IsOpenPhase, open_next}
+use Rattle.law_run_recovers.proofs.Open.{begun_there}
 use Rattle.law_run_recovers.proofs.Stand.{Spares, event_stands, free_where}
 use Rattle.law_run_recovers.proofs.Picks.{along}
 
@@ -24,37 +23,16 @@ back_same : (agent : Agent) → Back agent agent
 back_same agent = (omega arith, λ same open'. open')
 
 back_begin : (fixed : Fixed) (agent : Agent) (job : Job) → Back agent (begin fixed agent job)
-back_begin fixed agent job =
-    elim (is_idle agent.doing && has_sense fixed job && nat_lt agent.count max_jobs) as (λ b. Back agent (cond b (record (started fixed agent job) { count = agent.count + 1 }) agent)) [
-      | true ↦ (omega arith, λ same open'. absurd (omega (arith, same)))
-      | false ↦ back_same agent
-    ]
+back_begin fixed agent job = search arith
 
 back_forget : (agent : Agent) (site : ℕ) → Back agent (forget agent site)
 back_forget agent site = (omega arith, λ same open'. open')
 
-open_take : (fixed : Fixed) (agent : Agent) (response : Response) → IsOpen (take fixed agent response).agent.doing → IsOpen agent.doing
-open_take fixed agent response = of (next_of fixed agent) refl
-  where
-    none : (doing : Option Doing) → IsOpen (take_in fixed agent response doing None).agent.doing → IsOpen agent.doing
-    none None open' = open'
-    none (Some (Running txn_run)) open' = open'
-    none (Some (RunningSweep sweep_run)) open' = open'
-
-    of : (asked : Option (ℕ × Request)) → next_of fixed agent ≡ asked → IsOpen (take_in fixed agent response agent.doing asked).agent.doing → IsOpen agent.doing
-    of None is open' = none agent.doing open'
-    of (Some asked) is open' = open_before fixed agent response agent.doing asked is open'
-
 back_take : (fixed : Fixed) (agent : Agent) (response : Response) → Back agent (take fixed agent response).agent
-back_take fixed agent response =
-    let same : (take fixed agent response).agent.count ≡ agent.count = (take_keeps fixed agent response agent.doing (next_of fixed agent)).1 in
-    (omega (arith, same), λ _ open'. open_take fixed agent response open')
+back_take fixed agent response = search arith
 
 back_on : (a b c : Agent) → Back a b → Back b c → Back a c
-back_on a b c first then' =
-    let one = first.0 in
-    let two = then'.0 in
-    (omega (arith, one, two), λ same open'. first.1 (omega (arith, one, two, same)) (then'.1 (omega (arith, one, two, same)) open'))
+back_on a b c first then' = search arith
 
 back_all : (fixed : Fixed) (i : ℕ) (events : List Event) (w : World) (old : Agent) → agent_at w i ≡ Some old → (new : Agent) × (agent_at (after fixed w events) i ≡ Some new) × Back old new
 back_all fixed i [] w old is = (old, is, back_same old)
@@ -65,17 +43,8 @@ back_all fixed i (event ∷ events) w old is =
 
 -- ---- in the words of the premise
 
-open_of : (t : ℕ) (doing : Option Doing) → runs t doing ≡ true → tells doing ≡ false → IsOpen doing
-open_of t (Some (Running txn_run)) runs told = of txn_run.phase told
-  where
-    of : (phase : Phase) → is_told phase ≡ false → IsOpenPhase phase
-    of (Finishing servers v ending) told = absurd (false≢true (sym told))
-    of other told = tt
-open_of t other runs told = absurd (false≢true runs)
-
 untold : (phase : Phase) → IsOpenPhase phase → is_told phase ≡ false
-untold (Finishing servers v ending) open' = absurd open'
-untold other open' = refl
+untold phase h1 = search arith
 
 -- the agent runs the transaction, and its end is not fixed
 pub record IsAtWork (w : World) (agent t : ℕ) : Type 0 where
@@ -90,27 +59,17 @@ pub record Works (w : World) (agent t : ℕ) : Type 0 where
   pub runs_it : runs t actor.agent.doing ≡ true
 
 pub works : (w : World) (agent t : ℕ) → IsAtWork w agent t → Works w agent t
-works w agent t at = of (actor_at w agent) refl at.running at.untold
-  where
-    of : (found : Option Actor) → actor_at w agent ≡ found → running_in t found ≡ true → telling_in found ≡ false → Works w agent t
-    of None is running told = absurd (false≢true running)
-    of (Some actor) is running told = record { actor = actor; there = is; is_open = open_of t actor.agent.doing running told; runs_it = running }
+works w agent t at = search arith
 
 pub at_work : (w : World) (agent t : ℕ) (actor : Actor) → actor_at w agent ≡ Some actor → IsOpen actor.agent.doing → runs t actor.agent.doing ≡ true → IsAtWork w agent t
-at_work w agent t actor there open' runs = record { running = ap (running_in t) there ∙ runs; untold = ap telling_in there ∙ of actor.agent.doing open' }
-  where
-    of : (doing : Option Doing) → IsOpen doing → tells doing ≡ false
-    of (Some (Running txn_run)) open' = untold txn_run.phase open'
-    of other open' = absurd open'
+at_work w agent t actor there open' runs = search arith
 
 -- a transaction that an agent runs is the last that it began
 pub last_of : (ds : List Decided) (i count t : ℕ) (doing : Option Doing) → IsAt ds i count doing → runs t doing ≡ true → t + 64 ≡ 64 * count + i
-last_of ds i count t (Some (Running txn_run)) at is = let numbered = at.numbered in let last = at.last in let same = eqb-true txn_run.task.t t is in omega (arith, numbered, last, same)
-last_of ds i count t other at is = absurd (false≢true is)
+last_of ds i count t doing h5 h6 = search arith
 
 is_last : (ds : List Decided) (i count t : ℕ) (doing : Option Doing) → IsAt ds i count doing → IsOpen doing → t + 64 ≡ 64 * count + i → runs t doing ≡ true
-is_last ds i count t (Some (Running txn_run)) at open' last' = let numbered = at.numbered in let last = at.last in eq-eqb txn_run.task.t t (omega (arith, numbered, last, last'))
-is_last ds i count t other at open' last' = absurd open'
+is_last ds i count t doing h5 h6 h7 = search arith
 
 -- ---- what is asked in an event
 
@@ -118,55 +77,16 @@ is_last ds i count t other at open' last' = absurd open'
 pub step_asks : (fixed : Fixed) (w : World) (i : ℕ) (found : Option Actor) (what : Served) → (steps_once fixed w i found).done.served ≡ Some what
     → (actor : Actor) × (found ≡ Some actor) × (next_of fixed actor.agent ≡ Some (what.server, what.request.value))
 step_asks fixed w i None what is = absurd (none-some what is)
-step_asks fixed w i (Some actor) what is = of (next_of fixed actor.agent) refl is
-  where
-    Next : Type 0
-    Next = (other : Actor) × (Some actor ≡ Some other) × (next_of fixed other.agent ≡ Some (what.server, what.request.value))
-
-    by : (asked : ℕ × Request) (st : State) → next_of fixed actor.agent ≡ Some asked → (answered fixed w i actor st (serve asked.0 st (record { stamp = actor.stamp; value = asked.1 }))).done.served ≡ Some what → Next
-    by asked st next =
-        elim (is_full st (record { stamp = actor.stamp; value = asked.1 })) as
-        (λ b.
-        (answered fixed w i actor st
-        (cond b None
-        (Some (record {
-          server = asked.0;
-          request = record { stamp = actor.stamp; value = asked.1 };
-          reply = answer_of st
-              (record { stamp = actor.stamp; value = asked.1 });
-        })))).done.served ≡ Some what → Next) [
-          | true ↦ λ is. absurd (none-some what is)
-          | false ↦ λ is. (actor, refl, next ∙ ap (λ (what : Served). Some (what.server, what.request.value)) (same_Some _ what is))
-        ]
-
-    at : (asked : ℕ × Request) (found : Option State) → next_of fixed actor.agent ≡ Some asked → (asks_at fixed w i actor asked found).done.served ≡ Some what → Next
-    at asked None next is = absurd (none-some what is)
-    at asked (Some st) next is = by asked st next is
-
-    of : (asked : Option (ℕ × Request)) → next_of fixed actor.agent ≡ asked → (asks fixed w i actor asked).done.served ≡ Some what → Next
-    of None next is = absurd (none-some what is)
-    of (Some asked) next is = at asked (server_at w asked.0) next is
+step_asks fixed w i (Some actor) what is = search (none-some, same_Some, arith)
 
 pub operates_it : (w : World) (server : ℕ) (asked : Request) (found : Option State) (what : Served) → (operates w server asked found).done.served ≡ Some what → what.request.value ≡ asked
-operates_it w server asked None what is = absurd (none-some what is)
-operates_it w server asked (Some st) what is =
-    elim (is_full st (record { stamp = 0; value = asked })) as
-    (λ b. (operated w st (cond b None (Some (record { server = server; request = record { stamp = 0; value = asked }; reply = answer_of st (record { stamp = 0; value = asked }) })))).done.served ≡ Some what → what.request.value ≡ asked) [
-      | true ↦ λ is. absurd (none-some what is)
-      | false ↦ λ is. ap (λ (what : Served). what.request.value) (sym (same_Some _ what is))
-    ] is
+operates_it w server asked found what h5 = search arith
 
 pub becomes_none : (w : World) (i : ℕ) (change : Agent → Agent) (found : Option Actor) → (becomes w i change found).done.served ≡ None
-becomes_none w i change None = refl
-becomes_none w i change (Some actor) = refl
+becomes_none w i change found = search arith
 
 pub lacks_none : (fixed : Fixed) (w : World) (i : ℕ) (why : Why) (found : Option Actor) → (lacks fixed w i (Lacked why) found).done.served ≡ None
-lacks_none fixed w i why None = refl
-lacks_none fixed w i why (Some actor) = of (next_of fixed actor.agent)
-  where
-    of : (asked : Option (ℕ × Request)) → (lacks_for fixed w i actor (Lacked why) asked).done.served ≡ None
-    of None = refl
-    of (Some asked) = refl
+lacks_none fixed w i why found = search arith
 
 -- ---- no event takes a lock of it where it is at work
 
@@ -179,10 +99,8 @@ no_finish asked named v other is = false≢true (sym other ∙ ap is_finish is)
 event_spares : (given : Opening) (agent t : ℕ) (w : World) (event : Event) → IsAtWork w agent t → (hinders_itself given agent w event || robs given agent t w event) ≡ false
     → (st : State) → st.up ≡ true → (serves : Serves w (step (fixed_of given) w event)) → server_at w serves.target ≡ Some st → Spares t st serves.asked.value
 event_spares given agent t w (Begin i job) at calm st up serves there named v is = absurd (none-some _ (sym (becomes_none w i (λ agent. begin (fixed_of given) agent job) (actor_at w i)) ∙ serves.done))
-event_spares given agent t w (Crash server) at calm st up serves there named v is =
-    absurd (no_finish request.Crash named v refl (sym (operates_it w server request.Crash (server_at w server) _ serves.done) ∙ is))
-event_spares given agent t w (Return server) at calm st up serves there named v is =
-    absurd (no_finish request.Return named v refl (sym (operates_it w server request.Return (server_at w server) _ serves.done) ∙ is))
+event_spares given agent t w (Crash server) at calm st up serves there named v is = search (no_finish, operates_it, arith)
+event_spares given agent t w (Return server) at calm st up serves there named v is = search (no_finish, operates_it, arith)
 event_spares given agent t w (Forget i site) at calm st up serves there named v is = absurd (none-some _ (sym (becomes_none w i (λ agent. forget agent site) (actor_at w i)) ∙ serves.done))
 event_spares given agent t w (Lack i why) at calm st up serves there named v is = absurd (none-some _ (sym (lacks_none (fixed_of given) w i why (actor_at w i)) ∙ serves.done))
 event_spares given agent t w (Step other) at calm st up serves there named v is = of (other == agent) refl
@@ -231,11 +149,7 @@ module _ (given : Opening) (events later : List Event) (agent t : ℕ) (caller :
   first_agent = ap agent_of (begun_there given events later agent t caller site ops actor can there begins_so)
 
   first_last : t + 64 ≡ 64 * (begin (fixed_of given) actor.agent job).count + agent
-  first_last =
-      let so = its_begin given events later agent t caller site ops actor can there begins_so in
-      let count : (begin (fixed_of given) actor.agent job).count ≡ actor.agent.count + 1 = ap (λ b. (cond b (record (started (fixed_of given) actor.agent job) { count = actor.agent.count + 1 }) actor.agent).count) so.1 in
-      let number = so.0 in
-      omega (arith, count, number)
+  first_last = search arith
 
   at_of : (so_far : List Event) (a : Agent) → agent_at (world_at so_far) agent ≡ Some a → IsAt (decisions given (events ++ Begin agent job ∷ so_far)) agent a.count a.doing
   at_of so_far a is = (holds_of given can.accepted (events ++ Begin agent job ∷ so_far)).agents.at agent a (ap (λ w. agent_at w agent) (sym (run_at so_far)) ∙ is)
@@ -258,12 +172,7 @@ module _ (given : Opening) (events later : List Event) (agent t : ℕ) (caller :
       of (actor_at (world_at so_far) agent) refl mid.0 mid.1 open' mid_last
     where
       of : (found : Option Actor) → actor_at (world_at so_far) agent ≡ found → (a : Agent) → agent_at (world_at so_far) agent ≡ Some a → IsOpen a.doing → t + 64 ≡ 64 * a.count + agent → IsAtWork (world_at so_far) agent t
-      of None is a at_it open' last' = absurd (none-some a (sym (ap agent_of is) ∙ at_it))
-      of (Some now) is a at_it open' last' =
-          let same : now.agent ≡ a = same_Some now.agent a (sym (ap agent_of is) ∙ at_it) in
-          at_work (world_at so_far) agent t now is (subst (λ (a : Agent). IsOpen a.doing) (sym same) open')
-          (is_last (decisions given (events ++ Begin agent job ∷ so_far)) agent now.agent.count t now.agent.doing (at_of so_far now.agent (ap agent_of is)) (subst (λ (a : Agent). IsOpen a.doing) (sym same) open')
-          (subst (λ (a : Agent). t + 64 ≡ 64 * a.count + agent) (sym same) last'))
+      of found h1 a h3 h4 h5 = search (none-some, agent_of, same_Some, at_work, is_last, at_of, arith)
 
 module _ (given : Opening) (events later : List Event) (agent t : ℕ) (caller : Identity) (site : ℕ) (ops : List Op) (actor : Actor) (goes : GoesAmongLocks given events later agent t caller site ops actor) where
   abbrev job_of : Job
@@ -280,11 +189,7 @@ module _ (given : Opening) (events later : List Event) (agent t : ℕ) (caller :
 
   -- who is open is there
   there_where : (w : World) (server : ℕ) (one : ℕ × LockMode) → is_open_at w t one.0 one.1 server ≡ true → (st : State) × (server_at w server ≡ Some st)
-  there_where w server one = of (server_at w server) refl
-    where
-      of : (found : Option State) → server_at w server ≡ found → is_open_way (way_in t one.0 one.1 found) ≡ true → (st : State) × (server_at w server ≡ Some st)
-      of None is open' = absurd (false≢true open')
-      of (Some st) is open' = (st, is)
+  there_where w server one = search arith
 
   -- ---- what is stored stays
 
@@ -296,9 +201,7 @@ module _ (given : Opening) (events later : List Event) (agent t : ℕ) (caller :
     Same w = (st old : State) → server_at w server ≡ Some st → server_at first server ≡ Some old → copy_of st.store one.0 ≡ copy_of old.store one.0
 
     same_first : Same (world_then [])
-    same_first st old at was =
-        ap (λ (st : State). copy_of st.store one.0)
-        (same_Some st old (sym at ∙ begun_servers given events later agent t caller site ops actor goes.can goes.there goes.begins server ∙ was))
+    same_first st old at was = search arith
 
     -- one event
     pub same_next : (so_far rest : List Event) (event : Event) → later ≡ so_far ++ event ∷ rest → IsAtWork (world_then so_far) agent t → Same (world_then so_far) → Same (step (fixed_of given) (world_then so_far) event).world
@@ -323,21 +226,7 @@ module _ (given : Opening) (events later : List Event) (agent t : ℕ) (caller :
   -- So a near server tells it of such a suite what it would have told at its begin.
   pub same_way : (so_far rest : List Event) → later ≡ so_far ++ rest → IsAtWork (world_then so_far) agent t → (server : ℕ) (one : ℕ × LockMode) → goes.near server ≡ true → Contains asked one
       → SameWay first (world_then so_far) server t one.0 one.1
-  same_way so_far rest is at server one near has =
-      let stays = goes.stays so_far rest is at.running in
-      record {
-        way = stays.way server one near has;
-        shown = λ open'.
-            of (server_at (world_then so_far) server) (server_at first server) (λ st old now was.
-            open_stands server one near has (ap is_open_way (sym (stays.way server one near has)) ∙ open') so_far rest is at st old now was) refl refl;
-      }
-    where
-      of : (found was : Option State)
-          → ((st old : State) → server_at (world_then so_far) server ≡ Some st → server_at first server ≡ Some old → copy_of st.store one.0 ≡ copy_of old.store one.0)
-          → server_at (world_then so_far) server ≡ found → server_at first server ≡ was → shows_same found was one.0
-      of None was same now then' = tt
-      of (Some st) None same now then' = tt
-      of (Some st) (Some old) same now then' = let copy = same st old now then' in (ap (λ (copy : Replica). copy.prefix) copy, ap (λ (copy : Replica). copy.dver) copy)
+  same_way so_far rest is at server one near has = search (open_stands, arith)
 
   -- ---- law 3's clause of what it asks
 
@@ -348,7 +237,4 @@ module _ (given : Opening) (events later : List Event) (agent t : ℕ) (caller :
 
   pub as_at_its_begin : (so_far rest : List Event) → later ≡ so_far ++ rest → IsAtWork (world_then so_far) agent t → (server : ℕ) (question : Request) → goes.near server ≡ true → OfAsks t asked question
       → AsAtItsBegin first (world_then so_far) server question
-  as_at_its_begin so_far rest is at server question near of_it = record {
-    up = (goes.stays so_far rest is at.running).up server near;
-    told = told_so (world_then so_far) server question of_it (λ one has. same_way so_far rest is at server one near has);
-  }
+  as_at_its_begin so_far rest is at server question near of_it = search (told_so, same_way, arith)

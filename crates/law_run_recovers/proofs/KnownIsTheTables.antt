@@ -1,7 +1,7 @@
 -- What a transaction knows is what the registers of the run hold, and so on its table, as long as no lock of it was taken away and it is not answered.
-use Rattle.law_run_recovers.proofs.Vocabulary.{◌≡◌, ◌≢◌, ⊎_elim, ℕ, false, List, Option, Some, None, refl, sym, ap, ◌∙◌, unwrap_or, slice_get, slice_set, nat_cmp, none-some, same_Some, IsOrdered, Opening, Request, Stamped, served, State}
-use Rattle.law_run_recovers.proofs.Vocabulary.{record_of, is_resolve, row_of, AgreesWith, ReadPoint, GatheredSuite, suite_of, known_of, Fixed, TransactionRun, Running, is_decide, Event, Actor, World, Stepped, server_at, actor_at, run}
-use Rattle.law_run_recovers.proofs.Vocabulary.{table_of, Answered, IsKnown, beginning, home_in, machine_of, known_by, same_or, step_is, puts_in, register, all_shown, CanBe, all_keep, holds_after, Stands, is_known, known_owed}
+use Rattle.law_run_recovers.proofs.Vocabulary.{◌≡◌, ◌≢◌, ⊎_elim, ℕ, false, List, Option, Some, None, refl, sym, ap, ◌∙◌, unwrap_or, slice_get, slice_set, nat_cmp, none-some, same_Some, IsOrdered, Opening, Request, Stamped, served, State, arith}
+use Rattle.law_run_recovers.proofs.Vocabulary.{record_of, is_resolve, row_of, AgreesWith, ReadPoint, GatheredSuite, suite_of, known_of, Fixed, TransactionRun, Running, is_decide, Event, Actor, World, Stepped, server_at, actor_at, run, table_of}
+use Rattle.law_run_recovers.proofs.Vocabulary.{Answered, IsKnown, beginning, home_in, machine_of, known_by, same_or, step_is, puts_in, register, all_shown, CanBe, all_keep, holds_after, Stands, is_known, known_owed}
 use Rattle.law_one_table.proofs.Knowing.{agrees}
 use Rattle.law_server_moves.specs.Views.{verdict_of}
 use Rattle.rep_core.specs.State as state
@@ -32,8 +32,7 @@ unanswered given all can t none z is =
     none-some Answered (sym ((holds_after given all can z).shows.verdict t ∙ ap verdict_of (of (server_at (run given all) (home_in given t)) refl)) ∙ is)
   where
     of : (found : Option State) → server_at (run given all) (home_in given t) ≡ found → record_of (unwrap_or found (state.opening (home_in given t) given)) t ≡ None
-    of (Some st) at = none (home_in given t) st at
-    of None at = refl
+    of found h1 = search arith
 
 -- ---- what is known
 

@@ -1,8 +1,8 @@
 -- What a transaction knows as it executes it still knows once it goes on, whatever it does next.
-use Rattle.law_run_recovers.proofs.Vocabulary.{◌≡◌, inl, inr, ℕ, zero, suc, ◌+◌, ◌≤◌, ◌<◌, Bool, true, false, cond, List, [], ◌∷◌, length, Option, Some, None, is_some, Ok, Err, refl, sym, ap, subst, ◌∙◌, arith, ◌==◌, ◌||◌, nat_lt, list_any}
-use Rattle.law_run_recovers.proofs.Vocabulary.{nat_cmp, is_eq, false≢true, eqb-true, nat_tests, nat_cmp_total, none-some, same_Some, IsOrdered, IsOrdered-insert, max_servers, Prefix, Shared, Has, filter_has, Verdict, PlainTable, row_of}
-use Rattle.law_run_recovers.proofs.Vocabulary.{Hold, Know, IsSoAt, AgreesWith, holds, raise, all_told, Next, Current, Ask, Short, next, Cache, Ending, Undecided, ReadPoint, GatheredSuite, Suites, suite_of, with_suite, known_of, holds_lock}
-use Rattle.law_run_recovers.proofs.Vocabulary.{has_locks, Fixed, Task, Granted, TransactionRun, GoesOn, with_at, World, or_right, Outcome as Executed}
+use Rattle.law_run_recovers.proofs.Vocabulary.{◌≡◌, ℕ, zero, suc, ◌+◌, ◌≤◌, ◌<◌, Bool, true, false, cond, List, [], ◌∷◌, length, Option, Some, None, is_some, Ok, Err, refl, sym, ap, subst, ◌∙◌, arith, ◌==◌, nat_lt, list_any, nat_cmp, is_eq}
+use Rattle.law_run_recovers.proofs.Vocabulary.{false≢true, eqb-true, nat_tests, nat_cmp_total, none-some, same_Some, IsOrdered, IsOrdered-insert, max_servers, Prefix, Shared, Has, filter_has, Verdict, PlainTable, row_of, Hold, Know, IsSoAt}
+use Rattle.law_run_recovers.proofs.Vocabulary.{AgreesWith, holds, raise, all_told, Next, Current, Ask, Short, next, Cache, Ending, Undecided, ReadPoint, GatheredSuite, Suites, suite_of, with_suite, known_of, holds_lock, has_locks, Fixed, Task}
+use Rattle.law_run_recovers.proofs.Vocabulary.{Granted, TransactionRun, GoesOn, with_at, World, or_right, Outcome as Executed}
 use Rattle.txn_core.specs.Transactions.{Step, Gathered, numbers_from, locked_at, tell_end, prepare, short_cause, gather_by, gather, raised_or_new, widened, widen_by, widen_one, widen_all, to_widen, proceed, opened, heard_on, execute}
 use Rattle.rep_core.specs.declared.reply.Verdict.TheVariants as verdict
 use Rattle.file_exec.specs.declared.executor.Outcome.TheVariants as exec
@@ -20,19 +20,11 @@ any_at p [] z suite is so = absurd (none-some suite is)
 any_at p (e ∷ es) z suite is so = of (is_eq (nat_cmp z e.0)) is (λ is. any_at p es z suite is so)
   where
     of : (b : Bool) → cond b (Some e.1) (suite_of es z) ≡ Some suite → (suite_of es z ≡ Some suite → list_any (λ (one : ℕ × GatheredSuite). p one.1) es ≡ true) → list_any (λ (one : ℕ × GatheredSuite). p one.1) (e ∷ es) ≡ true
-    of true is go = ap (λ b. b || list_any (λ (one : ℕ × GatheredSuite). p one.1) es) (ap p (same_Some e.1 suite is) ∙ so)
-    of false is go = or_right (p e.1) (list_any (λ (one : ℕ × GatheredSuite). p one.1) es) (go is)
+    of b h1 h2 = search (same_Some, or_right, arith)
 
 pub among_numbers : (count start n : ℕ) → start ≤ n → n < start + count → Has (numbers_from start count) n
 among_numbers zero start n from below = absurd (omega (arith, from, below))
-among_numbers (suc count) start n from below = of (start == n) refl (among_numbers count (start + 1) n)
-  where
-    above : (start == n) ≡ false → start + 1 ≤ n
-    above other = grind (arith, nat_tests)
-
-    of : (b : Bool) → (start == n) ≡ b → (start + 1 ≤ n → n < start + 1 + count → Has (numbers_from (start + 1) count) n) → Has (numbers_from start (suc count)) n
-    of true same go = inl (eqb-true start n same)
-    of false other go = inr (go (above other) (omega (arith, below)))
+among_numbers (suc count) start n from below = search (nat_tests, eqb-true, among_numbers count (start + 1) n, arith)
 
 -- a suite on which some server holds a lock
 pub record HasSome (suites : Suites) : Type 0 where
@@ -77,26 +69,10 @@ like_with suites more number new like knows told = record {
 }
   where
     of : (z : ℕ) (b : Bool) → (number == z) ≡ b → known_in (cond b (Some new) (suite_of more z)) ≡ known_in (suite_of more z)
-    of z true is = knows ∙ ap (λ z. known_in (suite_of more z)) (eqb-true number z is)
-    of z false is = refl
+    of z b h2 = search (known_in, eqb-true, arith)
 
     put : (b : Bool) → (number == like.some.z) ≡ b → HasSome (with_suite number new more)
-    put true is = record {
-      z = like.some.z;
-      suite = new;
-      there = with_at number new more like.some.z ∙ ap (λ b. cond b (Some new) (suite_of more like.some.z)) is;
-      server = like.some.server;
-      is_one = like.some.is_one;
-      holds = ap (λ told. holds Shared told like.some.server) (told like.some.suite (ap (suite_of more) (eqb-true number like.some.z is) ∙ like.some.there)) ∙ like.some.holds;
-    }
-    put false is = record {
-      z = like.some.z;
-      suite = like.some.suite;
-      there = with_at number new more like.some.z ∙ ap (λ b. cond b (Some new) (suite_of more like.some.z)) is ∙ like.some.there;
-      server = like.some.server;
-      is_one = like.some.is_one;
-      holds = like.some.holds;
-    }
+    put b h1 = search (with_at, eqb-true, arith)
 
 module _ (task : Task) (now : Cache) (suites : Suites) where
   tells_on : (more : Suites) → Like suites more → (v : Verdict) (ended : Ending) → KnowsOn suites (tell_end task now more v ended (locked_at more))
@@ -136,8 +112,7 @@ module _ (task : Task) (now : Cache) (suites : Suites) where
           (next new.collector) go
         where
           by_first : (first : Option ReadPoint) → known_if_first (widened granted.changes number suite) first ≡ known_if_first suite first
-          by_first (Some first) = refl
-          by_first None = refl
+          by_first first = search arith
 
   pub proceeds_on : (fixed : Fixed) → Like suites suites → (what : Executed) → KnowsOn suites (proceed fixed task now suites what)
   proceeds_on fixed like (exec.Need (Know number)) = record { txn_run = record { task = task; suites = suites; phase = doing.Fetching number }; is = refl; like = like }
@@ -155,8 +130,7 @@ module _ (task : Task) (now : Cache) (suites : Suites) where
           (λ old there. ap (λ (suite : GatheredSuite). all_told suite.collector) (same_Some suite old (sym is ∙ there)))) number (next new.collector)
         where
           by_first : (first : Option ReadPoint) → known_if_first (record suite { collector = raise suite.collector }) first ≡ known_if_first suite first
-          by_first (Some first) = refl
-          by_first None = refl
+          by_first first = search arith
 
 -- ---- so what is known once it went on was known as it executed
 

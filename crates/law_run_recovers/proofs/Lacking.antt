@@ -1,7 +1,7 @@
 -- What comes of an own step of an agent that is not served, and of what tells it so.
-use Rattle.law_run_recovers.proofs.Vocabulary.{◌≡◌, ◌⊎◌, inl, inr, ℕ, Bool, true, false, cond, Option, Some, None, is_some, refl, sym, ap, subst, ◌∙◌, ◌==◌, not, false≢true, and_parts, eqb-true, none-some, same_Some, Opening, Request}
-use Rattle.law_run_recovers.proofs.Vocabulary.{Stamped, State, is_full, answer_of, Lacked, fixed_of, next_of, take, Served, Event, Step, Lack, Actor, World, Stepped, server_at, actor_at, quiet, serve, moved, outcome_of, answered, asks_at}
-use Rattle.law_run_recovers.proofs.Vocabulary.{asks, steps_once, lacks_for, lacks, step, puts_in, hinders_itself, not-true}
+use Rattle.law_run_recovers.proofs.Vocabulary.{◌≡◌, ◌⊎◌, inl, inr, ℕ, Bool, true, false, cond, Option, Some, None, is_some, refl, sym, subst, ◌∙◌, not, false≢true, and_parts, eqb-true, none-some, same_Some, Opening, Request, arith, Stamped, State}
+use Rattle.law_run_recovers.proofs.Vocabulary.{is_full, answer_of, Lacked, fixed_of, next_of, take, Served, Event, Step, Lack, Actor, World, Stepped, server_at, actor_at, quiet, serve, moved, outcome_of, answered, asks_at, asks, lacks_for, lacks}
+use Rattle.law_run_recovers.proofs.Vocabulary.{step, puts_in, hinders_itself, not-true}
 use Rattle.rep_core.specs.declared.stamped.Lack.{Lack as Why}
 use Rattle.rep_core.specs.declared.stamped.Lack.TheVariants as lack
 
@@ -49,17 +49,13 @@ module _ (given : Opening) (agent : ℕ) (w : World) (here : Actor) (there : act
 
   of_server : (asked : ℕ × Request) → next_of (fixed_of given) here.agent ≡ Some asked → (found : Option State) → server_at w asked.0 ≡ found
       → is_some (asks_at (fixed_of given) w agent here asked found).done.served ≡ false → Either (asks_at (fixed_of given) w agent here asked found)
-  of_server asked next None at none = inr (record { is = refl; none = λ other some. ap (λ (asked : ℕ × Request). server_at w asked.0) (same_Some other asked (sym some ∙ next)) ∙ at })
-  of_server asked next (Some st) at none = of_serving asked st next none
+  of_server asked h1 found h3 h4 = grind (same_Some, of_serving, arith)
 
   of_next : (asked : Option (ℕ × Request)) → next_of (fixed_of given) here.agent ≡ asked → is_some (asks (fixed_of given) w agent here asked).done.served ≡ false → Either (asks (fixed_of given) w agent here asked)
-  of_next None next none = asks_none (asks (fixed_of given) w agent here None) refl next
-  of_next (Some asked) next none = of_server asked next (server_at w asked.0) refl none
+  of_next asked h1 h2 = search (asks_none, of_server, arith)
 
   of_step : is_some (step (fixed_of given) w (Step agent)).done.served ≡ false → Either (step (fixed_of given) w (Step agent))
-  of_step =
-      subst (λ found. is_some (steps_once (fixed_of given) w agent found).done.served ≡ false → Either (steps_once (fixed_of given) w agent found)) (sym there)
-      (of_next (next_of (fixed_of given) here.agent) refl)
+  of_step = search (of_next, arith)
 
   -- ---- it is told so
 
@@ -76,9 +72,5 @@ module _ (given : Opening) (agent : ℕ) (w : World) (here : Actor) (there : act
 
   pub hindered : (event : Event) → hinders_itself given agent w event ≡ true → Lacking (step (fixed_of given) w event) ⊎ Nothing (step (fixed_of given) w event)
   hindered (Lack i why) is = subst (λ i. Either (step (fixed_of given) w (Lack i why))) (sym (eqb-true i agent is)) (of_lack why)
-  hindered (Step i) is =
-      let parts = and_parts (i == agent) (not (is_some (step (fixed_of given) w (Step i)).done.served)) is in
-      let same : i ≡ agent = eqb-true i agent parts.0 in
-      subst (λ i. Either (step (fixed_of given) w (Step i))) (sym same)
-      (of_step (subst (λ i. is_some (step (fixed_of given) w (Step i)).done.served ≡ false) same (not-true (is_some (step (fixed_of given) w (Step i)).done.served) parts.1)))
+  hindered (Step i) is = search (and_parts, eqb-true, of_step, not-true, arith)
   hindered other is = absurd (false≢true is)

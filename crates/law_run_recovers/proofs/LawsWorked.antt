@@ -1,9 +1,9 @@
 -- Runs that the laws are about, by computation.
-use Rattle.law_run_recovers.proofs.Vocabulary.{◌≡◌, ⊎_elim, ℕ, zero, suc, ◌<◌, Bool, true, false, List, [], ◌∷◌, ◌++◌, Option, Some, None, is_some, refl, sym, ap, subst, ◌∙◌, arith, ◌==◌, ◌&&◌, ◌||◌, not, Contains, list_all, list_any}
-use Rattle.law_run_recovers.proofs.Vocabulary.{false≢true, and_parts, eqb-true, slice_get, nat_cmp, LockMode, Identity, Op, Opening, State, all_at, at_has, has_from, Transaction, Sweep, Event, Begin, Actor, World, server_at, actor_at, step}
-use Rattle.law_run_recovers.proofs.Vocabulary.{after, run, fixed_of, Fixed, owner, a, Cache, EventGivesValidVotes, CanBe, is_up, up_in, asks_for, way_in, way_at, is_way_met, in_its_way, StandsOpen, StandsStill, AreNear, is_running}
-use Rattle.law_run_recovers.proofs.Vocabulary.{Representative, hinders_itself, robs, begun_world, world_after, turns, puts, sweeps, GoesUnmet, GoesAmongLocks, SweepsAll, spoils, opening, not-true, lit<, All-from_recursion, IsAccepted}
-use Rattle.law_run_recovers.proofs.Vocabulary.{WasItsHome, both_made, one_server, GoesAlone, SweepsAlone, in_the_dark, stopped, two_agents, valid_votes}
+use Rattle.law_run_recovers.proofs.Vocabulary.{◌≡◌, ⊎_elim, ℕ, zero, suc, ◌<◌, Bool, true, false, List, [], ◌∷◌, ◌++◌, Option, Some, None, is_some, refl, sym, ap, subst, ◌∙◌, arith, ◌==◌, ◌&&◌, ◌||◌, not, Contains, list_all, list_any, false≢true}
+use Rattle.law_run_recovers.proofs.Vocabulary.{and_parts, eqb-true, slice_get, nat_cmp, LockMode, Identity, Op, Opening, State, all_at, at_has, has_from, Transaction, Sweep, Event, Begin, Actor, World, server_at, actor_at, step, after, run, fixed_of}
+use Rattle.law_run_recovers.proofs.Vocabulary.{Fixed, owner, a, Cache, EventGivesValidVotes, CanBe, is_up, up_in, asks_for, way_in, way_at, is_way_met, in_its_way, StandsOpen, StandsStill, AreNear, is_running, Representative, hinders_itself, robs}
+use Rattle.law_run_recovers.proofs.Vocabulary.{begun_world, world_after, turns, puts, sweeps, GoesUnmet, GoesAmongLocks, SweepsAll, spoils, opening, not-true, lit<, All-from_recursion, IsAccepted, WasItsHome, both_made, one_server, GoesAlone}
+use Rattle.law_run_recovers.proofs.Vocabulary.{SweepsAlone, in_the_dark, stopped, two_agents, valid_votes}
 use Rattle.law_run_machine.proofs.Decided.{some_of}
 use Rattle.std.specs.FinSet.{contains-empty}
 use Rattle.vote_core.proofs.Faults.{accepted_without_fault}

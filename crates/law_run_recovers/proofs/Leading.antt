@@ -1,7 +1,7 @@
 -- Where a suite is led to: to a prefix that it had, of whose voting members that are up none shows a newer one.
-use Rattle.law_run_recovers.proofs.Vocabulary.{◌≡◌, inl, inr, ℕ, zero, suc, ◌<◌, ◌≤◌, Bool, true, false, cond, List, [], ◌∷◌, length, Option, Some, None, refl, sym, ap, subst, ◌∙◌, arith, ◌&&◌, nat_lt, filter, find, option_map, false≢true}
-use Rattle.law_run_recovers.proofs.Vocabulary.{and_parts, and_from, nat_tests, none-some, same_Some, Representative, Opening, Prefix, copy_of, State, find_some, Has, fixed_of, Fixed, server_at, WasPrefix, Inv, beginning, at_has, up_in}
-use Rattle.law_run_recovers.proofs.Vocabulary.{is_up, shown_at, shown_in, shows_newer_by, newer_by, led_on, led_so_far_by, led_to_by}
+use Rattle.law_run_recovers.proofs.Vocabulary.{◌≡◌, ℕ, zero, suc, ◌<◌, ◌≤◌, Bool, true, false, cond, List, [], ◌∷◌, length, Option, Some, None, refl, sym, ap, subst, ◌∙◌, arith, ◌&&◌, nat_lt, filter, find, option_map, false≢true, and_parts, and_from}
+use Rattle.law_run_recovers.proofs.Vocabulary.{nat_tests, none-some, same_Some, Representative, Opening, Prefix, copy_of, State, find_some, Has, fixed_of, Fixed, server_at, WasPrefix, Inv, beginning, at_has, is_up, shown_at, shown_in, shows_newer_by}
+use Rattle.law_run_recovers.proofs.Vocabulary.{newer_by, led_on, led_so_far_by, led_to_by}
 use Rattle.law_suite_machine.specs.Machine.{World}
 use Rattle.run_core.specs.Worlds as worlds
 use Rattle.law_run_recovers.proofs.Found.{Answering}
@@ -14,35 +14,18 @@ not_itself a = grind (arith, nat_tests)
 module _ (fixed : Fixed) (world : worlds.World) (answers : ℕ → Bool) (suite : ℕ) where
   -- one step more
   pub one_step : (n : ℕ) (from p x : Prefix) → led_so_far_by n fixed world answers suite from ≡ p → newer_by fixed world answers suite p ≡ Some x → led_so_far_by (suc n) fixed world answers suite from ≡ x
-  one_step zero from p x at newer =
-      ap (λ from. led_on from (newer_by fixed world answers suite from) (λ y. y)) at ∙ ap (λ found. led_on p found (λ y. y)) newer
-  one_step (suc n) from p x at newer = of (newer_by fixed world answers suite from) refl (λ y at. one_step n y p x at newer) at
-    where
-      of : (found : Option Prefix) → newer_by fixed world answers suite from ≡ found
-          → ((y : Prefix) → led_so_far_by n fixed world answers suite y ≡ p → led_so_far_by (suc n) fixed world answers suite y ≡ x)
-          → led_on from found (λ y. led_so_far_by n fixed world answers suite y) ≡ p → led_on from found (λ y. led_so_far_by (suc n) fixed world answers suite y) ≡ x
-      of None is go at = absurd (none-some x (sym is ∙ ap (newer_by fixed world answers suite) at ∙ newer))
-      of (Some y) is go at = go y at
+  one_step zero from p x at newer = search arith
+  one_step (suc n) from p x at newer = search (none-some, one_step n, arith)
 
   pub stays : (n : ℕ) (from : Prefix) → newer_by fixed world answers suite from ≡ None → led_so_far_by n fixed world answers suite from ≡ from
-  stays zero from none = refl
-  stays (suc n) from none = ap (λ found. led_on from found (λ y. led_so_far_by n fixed world answers suite y)) none
+  stays n from h2 = search arith
 
   -- wherever none is newer is one end
   pub one_end : (n m : ℕ) (from : Prefix) → newer_by fixed world answers suite (led_so_far_by n fixed world answers suite from) ≡ None → newer_by fixed world answers suite (led_so_far_by m fixed world answers suite from) ≡ None
       → led_so_far_by n fixed world answers suite from ≡ led_so_far_by m fixed world answers suite from
   one_end zero m from one other = sym (stays m from one)
   one_end (suc n) zero from one other = stays (suc n) from other
-  one_end (suc n) (suc m) from one other = of (newer_by fixed world answers suite from) (λ y one other. one_end n m y one other) one other
-    where
-      of : (found : Option Prefix)
-          → ((y : Prefix) → newer_by fixed world answers suite (led_so_far_by n fixed world answers suite y) ≡ None → newer_by fixed world answers suite (led_so_far_by m fixed world answers suite y) ≡ None
-          → led_so_far_by n fixed world answers suite y ≡ led_so_far_by m fixed world answers suite y)
-          → newer_by fixed world answers suite (led_on from found (λ y. led_so_far_by n fixed world answers suite y)) ≡ None
-          → newer_by fixed world answers suite (led_on from found (λ y. led_so_far_by m fixed world answers suite y)) ≡ None
-          → led_on from found (λ y. led_so_far_by n fixed world answers suite y) ≡ led_on from found (λ y. led_so_far_by m fixed world answers suite y)
-      of None go one other = refl
-      of (Some y) go one other = go y one other
+  one_end (suc n) (suc m) from one other = search (one_end n m, arith)
 
 -- ---- how many pass a test
 
@@ -53,37 +36,15 @@ module _ {X : Type 0} (f g : X → Bool) where
 
   counted : (xs : List X) (x : X) → Has xs x → f x ≡ true → 1 ≤ length (filter f xs)
   counted [] x has is = absurd has
-  counted (y ∷ ys) x has is =
-      elim (f y) as (λ b. f y ≡ b → 1 ≤ length (cond b (y ∷ filter f ys) (filter f ys))) [
-        | true ↦ λ _. omega arith
-        | false ↦ λ no_test. elim has [ inl same ↦ absurd (false≢true (sym no_test ∙ ap f same ∙ is)) | inr later ↦ counted ys x later is ]
-      ] refl
+  counted (y ∷ ys) x has is = search (false≢true, counted ys x, arith)
 
   not_more : ((x : X) → g x ≡ true → f x ≡ true) → (xs : List X) → length (filter g xs) ≤ length (filter f xs)
   not_more so [] = omega arith
-  not_more so (x ∷ xs) =
-      let rest = not_more so xs in
-      elim (g x) as (λ b. g x ≡ b → length (cond b (x ∷ filter g xs) (filter g xs)) ≤ length (cond (f x) (x ∷ filter f xs) (filter f xs))) [
-        | true ↦ λ is. subst (λ b. suc (length (filter g xs)) ≤ length (cond b (x ∷ filter f xs) (filter f xs))) (sym (so x is)) (omega (arith, rest))
-        | false ↦ λ _. elim (f x) as (λ b. length (filter g xs) ≤ length (cond b (x ∷ filter f xs) (filter f xs))) [ true ↦ omega (arith, rest) | false ↦ omega (arith, rest) ]
-      ] refl
+  not_more so (x ∷ xs) = search (not_more so xs, arith)
 
   fewer : ((x : X) → g x ≡ true → f x ≡ true) → (xs : List X) (x : X) → Has xs x → f x ≡ true → g x ≡ false → length (filter g xs) < length (filter f xs)
   fewer so [] x has is isnt = absurd has
-  fewer so (y ∷ ys) x has is isnt =
-      elim has [
-        | inl same ↦
-            let rest = not_more so ys in
-            subst (λ y. length (cond (g y) (y ∷ filter g ys) (filter g ys)) < length (cond (f y) (y ∷ filter f ys) (filter f ys))) (sym same)
-            (subst (λ b. length (cond b (x ∷ filter g ys) (filter g ys)) < length (cond (f x) (x ∷ filter f ys) (filter f ys))) (sym isnt)
-            (subst (λ b. length (filter g ys) < length (cond b (x ∷ filter f ys) (filter f ys))) (sym is) (omega (arith, rest))))
-        | inr later ↦
-            let rest = fewer so ys x later is isnt in
-            elim (g y) as (λ b. g y ≡ b → length (cond b (y ∷ filter g ys) (filter g ys)) < length (cond (f y) (y ∷ filter f ys) (filter f ys))) [
-              | true ↦ λ so_y. subst (λ b. suc (length (filter g ys)) < length (cond b (y ∷ filter f ys) (filter f ys))) (sym (so y so_y)) (omega (arith, rest))
-              | false ↦ λ _. elim (f y) as (λ b. length (filter g ys) < length (cond b (y ∷ filter f ys) (filter f ys))) [ true ↦ omega (arith, rest) | false ↦ omega (arith, rest) ]
-            ] refl
-      ]
+  fewer so (y ∷ ys) x has is isnt = search (not_more, fewer so ys x, arith)
 
 -- ---- from one prefix to the next
 
@@ -94,11 +55,7 @@ record IsUp (world : worlds.World) (i : ℕ) : Type 0 where
   up : st.up ≡ true
 
 up_so : (world : worlds.World) (i : ℕ) → is_up world i ≡ true → IsUp world i
-up_so world i up = of (server_at world i) refl up
-  where
-    of : (found : Option State) → server_at world i ≡ found → up_in found ≡ true → IsUp world i
-    of None at up = absurd (false≢true up)
-    of (Some st) at up = record { st = st; at = at; up = up }
+up_so world i up = search arith
 
 module _ (given : Opening) (z : ℕ) (w : World) (world : worlds.World) (inv : Inv (beginning z given) w) (answers : ℕ → Bool) (answering : Answering (fixed_of given) world z w answers) where
   -- the servers that are up and show a newer one
@@ -135,18 +92,10 @@ module _ (given : Opening) (z : ℕ) (w : World) (world : worlds.World) (inv : I
           }
 
   less_left : (prefix next : Prefix) → Newer prefix next → length (filter (above next) world.servers) < length (filter (above prefix) world.servers)
-  less_left prefix next is =
-      fewer (above prefix) (above next) (λ st above'. let parts = and_parts st.up (nat_lt next.pver (copy_of st.store z).prefix.pver) above' in
-      and_from st.up _ parts.0 (after prefix.pver next.pver (copy_of st.store z).prefix.pver is.greater parts.1)) world.servers is.st is.has
-      (and_from is.st.up _ is.up (subst (λ (shown : Prefix). nat_lt prefix.pver shown.pver ≡ true) (sym is.shown) is.greater))
-      (ap (λ b. b && nat_lt next.pver (copy_of is.st.store z).prefix.pver) is.up ∙ subst (λ (shown : Prefix). nat_lt next.pver shown.pver ≡ false) (sym is.shown) (not_itself next.pver))
-    where
-      after : (a b c : ℕ) → nat_lt a b ≡ true → nat_lt b c ≡ true → nat_lt a c ≡ true
-      after a b c is also = grind (arith, nat_tests)
+  less_left prefix next is = search (fewer, and_parts, nat_lt, and_from, not_itself, nat_tests, arith)
 
   some_left : (prefix next : Prefix) → Newer prefix next → 1 ≤ length (filter (above prefix) world.servers)
-  some_left prefix next is =
-      counted (above prefix) (above next) world.servers is.st is.has (and_from is.st.up _ is.up (subst (λ (shown : Prefix). nat_lt prefix.pver shown.pver ≡ true) (sym is.shown) is.greater))
+  some_left prefix next is = search (counted, and_from, nat_lt, arith)
 
   pub record Led (prefix : Prefix) : Type 0 where
     pub was : WasPrefix (beginning z given) w.log prefix

@@ -1,8 +1,8 @@
 -- Where a collector ends to which servers stand as a sight says: at the prefix that its start leads to, with the votes of the servers that are open.
-use Rattle.law_run_recovers.proofs.Vocabulary.{◌≡◌, ◌⊎◌, inl, inr, ℕ, suc, ◌≤◌, Bool, true, false, cond, List, [], ◌∷◌, length, Option, Some, None, refl, sym, ap, subst, ◌∙◌, arith, ◌&&◌, not, nat_lt, nat_le, find, option_map, false≢true}
-use Rattle.law_run_recovers.proofs.Vocabulary.{and_parts, and_from, ltb-false, nat_tests, none-some, Representative, votes_in, votes_in-wider, Prefix, LockMode, Shared, Exclusive, serves, Reply, find_some, Has, Said, Told, newer, newest}
-use Rattle.law_run_recovers.proofs.Vocabulary.{holds, has_refused, Collector, all_told, needed_of, is_left, tell, told_by, Current, Short, next, collect, raise, Opening, fixed_of, Fixed, World, row, WasPrefix, IsQuorum, Inv, beginning}
-use Rattle.law_run_recovers.proofs.Vocabulary.{shown_at, shows_newer_by, newer_by, led_so_far_by, led_to_by, serves_itself}
+use Rattle.law_run_recovers.proofs.Vocabulary.{◌≡◌, ◌⊎◌, inl, inr, ℕ, suc, ◌≤◌, Bool, true, false, cond, List, [], ◌∷◌, Option, Some, None, refl, sym, ap, subst, ◌∙◌, arith, ◌&&◌, not, nat_lt, nat_le, find, option_map, false≢true, and_parts}
+use Rattle.law_run_recovers.proofs.Vocabulary.{and_from, ltb-false, nat_tests, none-some, Representative, votes_in, votes_in-wider, Prefix, LockMode, serves, Reply, find_some, Has, Said, Told, newer, newest, holds, has_refused, Collector, all_told}
+use Rattle.law_run_recovers.proofs.Vocabulary.{needed_of, is_left, tell, told_by, Current, Short, next, collect, raise, Opening, fixed_of, Fixed, World, row, WasPrefix, IsQuorum, Inv, beginning, shown_at, shows_newer_by, newer_by, led_so_far_by}
+use Rattle.law_run_recovers.proofs.Vocabulary.{led_to_by, serves_itself}
 use Rattle.suite_collect.specs.declared.told.Said.TheVariants.{Held}
 use Rattle.law_suite_machine.specs.Machine as machine
 use Rattle.law_run_recovers.proofs.Found.{Answering, newest_is_row}
@@ -44,14 +44,7 @@ module _ (fixed : Fixed) (world : World) (sight : Sight) (suite : ℕ) (Known : 
   -- a voting member that shows a newer one than the newest, which so is shown
   not_settled : (told : List Told) (rep : Representative) → Has (newest start told).votes.reps rep → nat_lt 0 rep.1 ≡ true → finds_at sight suite rep.0 ≡ true
       → nat_lt (newest start told).pver (shown_at fixed world suite rep.0).pver ≡ true → Settled (newest start told) → ⊥
-  not_settled told rep has some found less none = of (find (shows_newer_by fixed world (finds_at sight suite) suite (newest start told)) (newest start told).votes.reps) refl none
-    where
-      of : (one : Option Representative) → find (shows_newer_by fixed world (finds_at sight suite) suite (newest start told)) (newest start told).votes.reps ≡ one
-          → option_map (λ (rep : Representative). shown_at fixed world suite rep.0) one ≡ None → ⊥
-      of None is same =
-          false≢true (sym (find_fails (shows_newer_by fixed world (finds_at sight suite) suite (newest start told)) (newest start told).votes.reps is rep has)
-          ∙ and_from (nat_lt 0 rep.1 && finds_at sight suite rep.0) (nat_lt (newest start told).pver (shown_at fixed world suite rep.0).pver) (and_from (nat_lt 0 rep.1) (finds_at sight suite rep.0) some found) less)
-      of (Some other) is same = none-some (shown_at fixed world suite other.0) (sym same)
+  not_settled told rep has some found less none = search (finds_at, false≢true, find_fails, and_from, nat_lt, none-some, arith)
 
   going_on : (mode : LockMode) (told : List Told) → Going mode told → (answer : Reply) (one : Told) → IsAnswered fixed world sight suite (gathering start mode told) answer
       → told_by (next (gathering start mode told)) answer ≡ Some one → Going mode (one ∷ told)
@@ -119,8 +112,7 @@ module _ (fixed : Fixed) (world : World) (sight : Sight) (suite : ℕ) (Known : 
 
   -- where none is newer, that is where the start leads
   ends_at : (mode : LockMode) (told : List Told) → Going mode told → Settled (newest start told) → newest start told ≡ led_to_by fixed world (finds_at sight suite) suite start
-  ends_at mode told going none =
-      sym going.at ∙ one_end fixed world (finds_at sight suite) suite going.steps (length world.servers) start (ap (newer_by fixed world (finds_at sight suite) suite) going.at ∙ none) rules.last
+  ends_at mode told going none = search (one_end, finds_at, arith)
 
   -- ---- where it ends
 
@@ -143,8 +135,7 @@ module _ (fixed : Fixed) (world : World) (sight : Sight) (suite : ℕ) (Known : 
       let held = held_open fixed world sight suite start mode told going.right mode server has in (opens_wider sight suite mode (sight.first suite) server going.strong held.0, held.1)
 
   current_settled : (mode : LockMode) (told : List Told) → Going mode told → (prefix : Prefix) (dver : ℕ) (members : List ℕ) → next (gathering start mode told) ≡ Current prefix dver members → Settled (newest start told)
-  current_settled mode told going prefix dver members is =
-      rules.settled mode (newest start told) (holds mode told) going.known (held_finds mode told going) (at_current (gathering start mode told) prefix dver members is).enough
+  current_settled mode told going prefix dver members is = search (held_finds, at_current, gathering, arith)
 
   ends_current : (mode : LockMode) (told : List Told) → Going mode told → (prefix : Prefix) (dver : ℕ) (members : List ℕ)
       → next (gathering start mode told) ≡ Current prefix dver members → EndsCurrent mode prefix
@@ -154,8 +145,7 @@ module _ (fixed : Fixed) (world : World) (sight : Sight) (suite : ℕ) (Known : 
       let more = votes_in-wider (newest start told).votes.reps (holds mode told) (sight.opens suite mode) (λ server has. (held_open fixed world sight suite start mode told going.right mode server has).0) in
       record {
         prefix_is = sym at.prefix_is ∙ same;
-        enough = subst (λ (p : Prefix). nat_le (needed_of mode p.votes) (votes_in p.votes.reps (sight.opens suite mode)) ≡ true) same
-            (up_to (needed_of mode (newest start told).votes) (votes_in (newest start told).votes.reps (holds mode told)) (votes_in (newest start told).votes.reps (sight.opens suite mode)) at.enough more);
+        enough = search (nat_le, up_to, arith);
       }
     where
       up_to : (a b c : ℕ) → nat_le a b ≡ true → b ≤ c → nat_le a c ≡ true
@@ -177,8 +167,7 @@ module _ (fixed : Fixed) (world : World) (sight : Sight) (suite : ℕ) (Known : 
       record {
         had_is = sym at.had_is ∙ held ∙ ap (λ (p : Prefix). votes_in p.votes.reps (sight.opens suite mode)) same;
         wanting_is = sym at.wanting_is ∙ ap (λ (p : Prefix). needed_of mode p.votes) same;
-        too_few = subst (λ (p : Prefix). nat_le (needed_of mode p.votes) (votes_in p.votes.reps (sight.opens suite mode)) ≡ false) same
-            (ap (nat_le (needed_of mode (newest start told).votes)) (sym held) ∙ at.too_few);
+        too_few = search (nat_le, arith);
         refuses = subst (λ (p : Prefix). Refusing fixed world sight suite mode p.votes.reps busy) same
             (subst (Refusing fixed world sight suite mode (newest start told).votes.reps) at.busy_is (refusing fixed world sight suite mode mode told going.right (newest start told).votes.reps at.nobody));
       }
@@ -196,41 +185,21 @@ module _ (fixed : Fixed) (world : World) (sight : Sight) (suite : ℕ) (Known : 
 
   -- it is raised where none shows a newer prefix
   pub reached_raise : (c : Collector) → Reached c → Settled (newest c.start c.told) → Reached (raise c)
-  reached_raise c at none = record {
-    mode = Exclusive;
-    told = at.told;
-    is = ap raise at.is;
-    going = record {
-      right = all_wider fixed world sight suite at.mode Exclusive at.told (serves_all at.mode) at.going.right;
-      steps = at.going.steps;
-      at = at.going.at;
-      known = at.going.known;
-      strong = serves_all (sight.first suite);
-      settled = inr (subst (λ (c : Collector). Settled (newest c.start c.told)) at.is none);
-    };
-  }
+  reached_raise c at none = search (all_wider, serves_all, arith)
 
   pub reached_told : (c : Collector) → Reached c → (answer : Reply) (one : Told) → IsAnswered fixed world sight suite c answer → told_by (next c) answer ≡ Some one → Reached (tell one c)
-  reached_told c at answer one so is = record {
-    mode = at.mode;
-    told = one ∷ at.told;
-    is = ap (tell one) at.is;
-    going = going_on at.mode at.told at.going answer one (subst (λ (c : Collector). IsAnswered fixed world sight suite c answer) at.is so) (sym (ap (λ (c : Collector). told_by (next c) answer) at.is) ∙ is);
-  }
+  reached_told c at answer one so is = search (going_on, arith)
 
   -- One that is Current has the prefix that its start leads to, and the servers that are open have the votes that it wants, and none of them shows a newer
   -- one; one that is Short found the same prefix, and they have not.
   pub reached_settled : (c : Collector) → Reached c → (prefix : Prefix) (dver : ℕ) (members : List ℕ) → next c ≡ Current prefix dver members → Settled (newest c.start c.told)
-  reached_settled c at prefix dver members =
-      subst (λ (c : Collector). next c ≡ Current prefix dver members → Settled (newest c.start c.told)) (sym at.is) (current_settled at.mode at.told at.going prefix dver members)
+  reached_settled c at prefix dver members = search (current_settled, arith)
 
   pub reached_current : (c : Collector) → Reached c → (prefix : Prefix) (dver : ℕ) (members : List ℕ) → next c ≡ Current prefix dver members → EndsCurrent c.mode prefix
-  reached_current c at prefix dver members =
-      subst (λ (c : Collector). next c ≡ Current prefix dver members → EndsCurrent c.mode prefix) (sym at.is) (ends_current at.mode at.told at.going prefix dver members)
+  reached_current c at prefix dver members = search (ends_current, arith)
 
   pub reached_short : (c : Collector) → Reached c → (had wanting : ℕ) (busy : Option (ℕ × ℕ)) → next c ≡ Short had wanting busy → EndsShort c.mode had wanting busy
-  reached_short c at had wanting busy =
-      subst (λ (c : Collector). next c ≡ Short had wanting busy → EndsShort c.mode had wanting busy) (sym at.is) (ends_short at.mode at.told at.going had wanting busy)
+  reached_short c at had wanting busy = search (ends_short, arith)
 
   -- that is the newest that it was told of
   pub reached_leads : (c : Collector) → Reached c → (had wanting : ℕ) (busy : Option (ℕ × ℕ)) → next c ≡ Short had wanting busy
@@ -263,12 +232,9 @@ module _ (given : Opening) (z : ℕ) (w : machine.World) (world : World) (inv : 
   rules_of start was = record {
     begins = was;
     goes = λ server up. subst (WasPrefix (beginning z given) w.log) (answering.stored server up) (inv.current.were server).0;
-    settled = λ mode prefix held known held_up enough.
-        none_above prefix (newest_is_row (beginning z given) w inv prefix known held (quorum mode prefix held enough)
-        (λ i has. let is = held_up i has in subst (λ (p : Prefix). p.pver ≤ prefix.pver) (sym (answering.stored i is.0)) (ltb-false prefix.pver (shown_at (fixed_of given) world z i).pver is.1)));
+    settled = search (none_above, newest_is_row, quorum, ltb-false, arith);
     last = (leading.led given z w world inv answers answering start was).last;
   }
     where
       quorum : (mode : LockMode) (prefix : Prefix) (held : ℕ → Bool) → nat_le (needed_of mode prefix.votes) (votes_in prefix.votes.reps held) ≡ true → IsQuorum prefix.votes held
-      quorum Shared prefix held enough = inl enough
-      quorum Exclusive prefix held enough = inr enough
+      quorum mode prefix held h3 = search arith

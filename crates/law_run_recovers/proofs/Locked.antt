@@ -1,9 +1,8 @@
 -- Where a transaction has a lock on a suite no other's exclusive one stands beside it, and the copy stays as it is while it has the lock.
-use Rattle.law_run_recovers.proofs.Vocabulary.{◌≡◌, ℕ, Bool, true, false, cond, Option, Some, None, refl, sym, ap, subst, ◌∙◌, arith, ◌==◌, ◌&&◌, ◌||◌, not, slice_get, slice_set, list_any, false≢true, eqb-true, eq-eqb, nat_tests, same_Some}
-use Rattle.law_run_recovers.proofs.Vocabulary.{Prefix, Replica, LockMode, Shared, is_exclusive, Lock, Verdict, Reply, IsConsistent, conflicts, in_the_way, released, copy_of, State, after_locking, after_up, after_down, held, locking_reply}
-use Rattle.law_run_recovers.proofs.Vocabulary.{reply_of, served, find_some, Has, contains_from, has_filter, Fixed, Event, World, server_at, step, puts_in}
+use Rattle.law_run_recovers.proofs.Vocabulary.{◌≡◌, ℕ, Bool, true, false, cond, Option, Some, None, refl, sym, ap, ◌∙◌, arith, ◌==◌, ◌&&◌, ◌||◌, not, slice_get, slice_set, false≢true, eqb-true, eq-eqb, nat_tests, same_Some, Replica, LockMode, Shared}
+use Rattle.law_run_recovers.proofs.Vocabulary.{is_exclusive, Lock, Verdict, IsConsistent, conflicts, in_the_way, copy_of, State, after_up, after_down, held, reply_of, served, find_some, Has, contains_from, has_filter, Fixed, Event, World, server_at}
+use Rattle.law_run_recovers.proofs.Vocabulary.{step, puts_in}
 use Rattle.rep_core.specs.Service.{after}
-use Rattle.rep_core.specs.declared.reply.Reply.TheVariants as reply
 use Rattle.rep_core.specs.declared.request.Request.TheVariants as request
 use Rattle.law_run_recovers.proofs.Serves.{On, Serves}
 use Rattle.law_run_recovers.proofs.Stand.{Spares, event_stands}
@@ -34,41 +33,14 @@ free_beside st consistent t z on = of (in_the_way t z Shared st.locks) refl
 
 -- a Finish leaves no lock of its transaction
 pub freed : (st : State) (u : ℕ) (v : Verdict) (lock : Lock) → st.up ≡ true → Has (cond st.up (after_up st (request.Finish u v)) (after_down st (request.Finish u v))).locks lock → lock.t ≡ u → ⊥
-freed st u v lock up has same =
-    let there : Has (released u st.locks) lock = subst (λ b. Has (cond b (after_up st (request.Finish u v)) (after_down st (request.Finish u v))).locks lock) up has in
-    let kept = has_filter (λ (lock : Lock). not (lock.t == u)) st.locks lock there in
-    false≢true (sym (ap not (eq-eqb lock.t u same)) ∙ kept.1)
+freed st u v lock up has same = search (has_filter, false≢true, eq-eqb, arith)
 
 -- a Poll that is held shows what is stored, and changes nothing of it
 pub poll_shows : (st : State) (t suite : ℕ) (mode : LockMode) (copy : Replica) → reply_of st (request.Poll t suite mode) ≡ held copy → ((copy_of st.store suite).prefix ≡ copy.prefix) × ((copy_of st.store suite).dver ≡ copy.dver)
-poll_shows st t suite mode copy = of st.up (in_the_way t suite mode st.locks)
-  where
-    prefix_in : Prefix → Reply → Prefix
-    prefix_in other (reply.Held prefix dver) = prefix
-    prefix_in other _ = other
-
-    dver_of : Reply → ℕ
-    dver_of (reply.Held prefix dver) = dver
-    dver_of _ = 0
-
-    down_not : reply.Down ≡ held copy → ⊥
-    down_not is = cc
-
-    busy_not : (holder : ℕ) (prepared : Bool) → reply.Busy holder prepared ≡ held copy → ⊥
-    busy_not holder prepared is = cc
-
-    of : (b : Bool) (other : Option Lock) → cond b (locking_reply other (copy_of st.store suite)) reply.Down ≡ held copy → ((copy_of st.store suite).prefix ≡ copy.prefix) × ((copy_of st.store suite).dver ≡ copy.dver)
-    of true None is = (ap (prefix_in copy.prefix) is, ap dver_of is)
-    of true (Some lock) is = absurd (busy_not _ _ is)
-    of false other is = absurd (down_not is)
+poll_shows st t suite mode copy = search arith
 
 pub poll_leaves : (st : State) (t suite : ℕ) (mode : LockMode) → (after st (request.Poll t suite mode)).store ≡ st.store
-poll_leaves st t suite mode = of st.up (in_the_way t suite mode st.locks)
-  where
-    of : (b : Bool) (other : Option Lock) → (cond b (after_locking other t suite mode st) (after_down st (request.Poll t suite mode))).store ≡ st.store
-    of true None = refl
-    of true (Some lock) = refl
-    of false other = refl
+poll_leaves st t suite mode = search arith
 
 -- ---- in a world
 
@@ -82,14 +54,7 @@ module _ (fixed : Fixed) (w : World) (event : Event) (server t z : ℕ) (st new 
       same_Some new (served serves.st serves.asked) (sym there ∙ ap (slice_get (slice_set w.servers serves.target (served serves.st serves.asked))) (sym target) ∙ puts.here) ∙ ap (λ st. served st serves.asked) same
 
   spares : (serves : Serves w (step fixed w event)) → serves.target ≡ server → st.up ≡ true → Spares t st serves.asked.value
-  spares serves target up named v is = of (named == t) refl
-    where
-      of : (b : Bool) → (named == t) ≡ b → (b && list_any (λ (lock : Lock). lock.t == t) st.locks) ≡ false
-      of false other = refl
-      of true same =
-          absurd (freed st named v still.lock up
-          (subst (λ asked. Has (after st asked).locks still.lock) is (subst (λ (st : State). Has st.locks still.lock) (new_is serves target) still.has))
-          (still.of_it ∙ sym (eqb-true named t same)))
+  spares serves target up named v is = search (freed, new_is, eqb-true, arith)
 
   pub copy_stays : copy_of new.store z ≡ copy_of st.store z
   copy_stays = event_stands fixed w event server t z Shared st new at now consistent (free_beside st consistent t z on) spares

@@ -1,11 +1,10 @@
 -- A transaction that had a lock at a server, and has none there any more, is not decided from then on.
-use Rattle.law_run_recovers.proofs.Vocabulary.{◌≡◌, ◌⊎◌, inl, inr, ⊎_elim, ℕ, zero, suc, ◌+◌, true, false, List, [], ◌∷◌, ◌++◌, append_assoc, Option, Some, None, refl, sym, ap, subst, ◌∙◌, ◌==◌, ◌&&◌, ◌||◌, unwrap_or, slice_get}
-use Rattle.law_run_recovers.proofs.Vocabulary.{cons_option, false≢true, and_parts, cases_Bool, eqb-true, eq-eqb, none-some, Opening, serves, Lock, State, is_own, Has, any_has, can_front, fixed_of, Event, Step, World, opening, server_at}
-use Rattle.law_run_recovers.proofs.Vocabulary.{servers_from, step, after, run, Decided, decided, decisions, decisions_from, servers_of, no_task, CanBe, locks_stand, locks_in, locks_at, stands, Always, TakenAwayAreNeverDecidedAt}
+use Rattle.law_run_recovers.proofs.Vocabulary.{◌≡◌, ◌⊎◌, inl, inr, ⊎_elim, ℕ, zero, suc, ◌+◌, true, false, List, [], ◌∷◌, ◌++◌, append_assoc, Option, Some, None, refl, sym, ap, subst, ◌∙◌, ◌==◌, ◌&&◌, ◌||◌, slice_get, arith, cons_option, false≢true}
+use Rattle.law_run_recovers.proofs.Vocabulary.{and_parts, cases_Bool, eqb-true, eq-eqb, none-some, Opening, serves, Lock, is_own, Has, any_has, can_front, fixed_of, Event, Step, World, opening, servers_from, step, after, run, Decided, decided}
+use Rattle.law_run_recovers.proofs.Vocabulary.{decisions, decisions_from, servers_of, no_task, CanBe, locks_stand, locks_in, locks_at, stands, Always, TakenAwayAreNeverDecidedAt}
 use Rattle.law_headline.specs.Laws.{TellsOfLock, has_lock_after}
 use Rattle.run_core.proofs.Appending.{after-append, decisions_from-append}
 use Rattle.law_run_recovers.specs.Sweeping.{has_any}
-use Rattle.rep_core.specs.State as state
 use Rattle.rep_core.proofs.Members as members
 use Rattle.rep_core.specs.declared.request.Request.TheVariants as request
 use Rattle.law_run_recovers.proofs.Serves.{Was, Told, lock_told}
@@ -65,11 +64,7 @@ module _ (given : Opening) where
   -- ---- so it has its locks still
 
   locks_of : (world : World) (i : ℕ) → (servers_of given world i).locks ≡ locks_at world i
-  locks_of world i = of (server_at world i)
-    where
-      of : (found : Option State) → (unwrap_or found (state.opening i given)).locks ≡ locks_in found
-      of None = refl
-      of (Some st) = refl
+  locks_of world i = search arith
 
 stands_later : (t : ℕ) (xs ys : List Decided) → stands t xs ≡ false → stands t (xs ++ ys) ≡ stands t ys
 stands_later t [] ys none = refl

@@ -1,11 +1,10 @@
 -- Where two alone begin nobody is beside: so what is promised to two that meet while others are beside is promised to them.
-use Rattle.law_run_recovers.proofs.Vocabulary.{Bool, Contains, List, None, Option, Some, [], ap, append-nil, false, inl, inr, is_some, not, refl, subst, sym, true, ℕ, ⊎_elim, ◌&&◌, ◌++◌, ◌==◌, ◌||◌, ◌∙◌, ◌∷◌, ◌≡◌, ◌⊎◌, eqb-true, false≢true}
-use Rattle.law_run_recovers.proofs.Vocabulary.{list_any, Row, row_of, is_decided, IsNotDecided, find_some, Has, contains_from, has_from, State, Lock, decisions, run, table_of, World, actor_at, has_no_job, server_at, step, EndedJob, Event}
-use Rattle.law_run_recovers.proofs.Vocabulary.{Begin, Crash, Lack, Step, Opening, LockMode, Exclusive, fixed_of, Sweep, Configuration, Begun, clashes, its_asks, spoils, votes_of_row, votes_set, HasFirstVotes, EndsThen, VotesNeverMovedOf}
-use Rattle.law_run_recovers.proofs.Vocabulary.{AreTight, TheyMeet, first_clash, its_votes, SetsApart, votes_now, and_parts, list_all, is_idle, Doing, Actor, hinders_itself, locks_at, locks_in, Always, OneThatMeetsIsDecidedAt}
+use Rattle.law_run_recovers.proofs.Vocabulary.{Contains, List, Option, Some, [], ap, append-nil, false, inl, inr, refl, subst, sym, true, ℕ, ⊎_elim, ◌++◌, ◌||◌, ◌∙◌, ◌∷◌, ◌≡◌, ◌⊎◌, false≢true, arith, list_any, Row, row_of, is_decided, IsNotDecided}
+use Rattle.law_run_recovers.proofs.Vocabulary.{find_some, Has, contains_from, has_from, State, Lock, decisions, run, table_of, World, server_at, EndedJob, Event, Opening, LockMode, Exclusive, fixed_of, Configuration, Begun, clashes, its_asks, spoils}
+use Rattle.law_run_recovers.proofs.Vocabulary.{votes_of_row, votes_set, HasFirstVotes, EndsThen, VotesNeverMovedOf, AreTight, TheyMeet, first_clash, its_votes, SetsApart, votes_now, and_parts, list_all, is_idle, Actor, locks_at, Always}
+use Rattle.law_run_recovers.proofs.Vocabulary.{OneThatMeetsIsDecidedAt}
 use Rattle.law_run_recovers.specs.MeetsByRows.{TheyMeetByRows, OneThatMeetsByRowsIsDecidedAt}
 use Rattle.law_run_recovers.specs.MeetsBeside.{GoesOn, IsServed, TheyMeetBeside, first_asks, sweeps_now, upsets}
-use Rattle.law_run_recovers.proofs.BesideAll.{not_both}
 use Rattle.law_run_recovers.proofs.MeetAsks.{sets_asked}
 use Rattle.law_run_recovers.proofs.MeetBoth.{same_place, place_of, third, none_first}
 use Rattle.law_run_recovers.proofs.MeetCalm.{Calm}
@@ -13,34 +12,16 @@ use Rattle.law_run_recovers.proofs.MeetCalmed.{AnySuite, asks_same, calm_where, 
 use Rattle.law_run_recovers.proofs.MeetEnds.{undecided_not}
 use Rattle.law_run_recovers.proofs.MeetLaw.{decided_one}
 use Rattle.law_run_recovers.proofs.MeetLocks.{owned_at}
-use Rattle.law_run_recovers.proofs.Open.{busy_of}
 
 -- ---- where nothing spoils it
 
 -- nothing upsets it
 pub upsets_not : (given : Opening) (w : World) (event : Event) → spoils given w event ≡ false → upsets given w event ≡ false
-upsets_not given w (Begin agent (Sweep server)) calm = calm
-upsets_not given w (Crash server) calm = calm
-upsets_not given w other calm = refl
-
--- and who has a job is served
-pub hinders_not : (given : Opening) (w : World) (agent : ℕ) (event : Event) → has_no_job (actor_at w agent) ≡ false → spoils given w event ≡ false → hinders_itself given agent w event ≡ false
-hinders_not given w agent (Lack other why) has calm = by (other == agent) refl
-  where
-    by : (b : Bool) → (other == agent) ≡ b → b ≡ false
-    by false apart = refl
-    by true same = absurd (false≢true (sym calm ∙ ap not (ap (λ i. has_no_job (actor_at w i)) (eqb-true other agent same) ∙ has)))
-hinders_not given w agent (Step other) has calm = by (other == agent) refl
-  where
-    by : (b : Bool) → (other == agent) ≡ b → (b && not (is_some (step (fixed_of given) w (Step other)).done.served)) ≡ false
-    by false apart = refl
-    by true same = ap not (not_both (has_no_job (actor_at w other)) (is_some (step (fixed_of given) w (Step other)).done.served) calm (ap (λ i. has_no_job (actor_at w i)) (eqb-true other agent same) ∙ has))
-hinders_not given w agent another has calm = refl
+upsets_not given w event h3 = search arith
 
 module _ (given : Opening) (events later : List Event) (unspoiled : (before after : List Event) (event : Event) → later ≡ before ++ event ∷ after → spoils given (run given (events ++ before)) event ≡ false) where
   pub all_served : (one : Begun given events later) → IsServed given events later one
-  all_served one before after event split running =
-      hinders_not given (run given (events ++ before)) one.agent event (busy_of one.t (actor_at (run given (events ++ before)) one.agent) running) (unspoiled before after event split)
+  all_served one before after event split running = search arith
 
   pub never_upset : (before after : List Event) (event : Event) → later ≡ before ++ event ∷ after → upsets given (run given (events ++ before)) event ≡ false
   never_upset before after event split = upsets_not given (run given (events ++ before)) event (unspoiled before after event split)
@@ -48,21 +29,11 @@ module _ (given : Opening) (events later : List Event) (unspoiled : (before afte
 -- where every agent is idle nobody sweeps
 pub idle_unswept : (actors : List Actor) → list_all (λ (actor : Actor). is_idle actor.agent.doing) actors ≡ true → list_any (λ (actor : Actor). sweeps_now actor.agent.doing) actors ≡ false
 idle_unswept [] all = refl
-idle_unswept (actor ∷ actors) all =
-    let parts = and_parts (is_idle actor.agent.doing) (list_all (λ (actor : Actor). is_idle actor.agent.doing) actors) all in
-    ap (λ b. b || list_any (λ (actor : Actor). sweeps_now actor.agent.doing) actors) (none actor.agent.doing parts.0) ∙ idle_unswept actors parts.1
-  where
-    none : (doing : Option Doing) → is_idle doing ≡ true → sweeps_now doing ≡ false
-    none None is = refl
-    none (Some doing) is = absurd (false≢true is)
+idle_unswept (actor ∷ actors) all = search (and_parts, false≢true, idle_unswept actors, arith)
 
 -- a lock that is there
 pub lock_in : (w : World) (server : ℕ) (lock : Lock) → Contains (locks_at w server) lock → (st : State) × (server_at w server ≡ Some st) × Has st.locks lock
-lock_in w server lock has = of (server_at w server) refl (has_from (locks_at w server) lock has)
-  where
-    of : (found : Option State) → server_at w server ≡ found → Has (locks_in found) lock → (st : State) × (server_at w server ≡ Some st) × Has st.locks lock
-    of None at has = absurd has
-    of (Some st) at has = (st, at, has)
+lock_in w server lock has = search (has_from, arith)
 
 -- ---- two alone
 
@@ -126,13 +97,7 @@ module _ (given : Opening) (events later : List Event) (one other : Begun given 
     }
 
   pub decided_alone : (is_decided job.ending || is_decided outcome.ending) ≡ true
-  decided_alone = of (is_decided job.ending) (is_decided outcome.ending) refl refl
-    where
-      of : (a b : Bool) → is_decided job.ending ≡ a → is_decided outcome.ending ≡ b → (a || b) ≡ true
-      of true b one_is other_is = refl
-      of false true one_is other_is = refl
-      of false false one_is other_is =
-          ap (λ b. b || false) (sym one_is) ∙ ap (λ b. is_decided job.ending || b) (sym other_is) ∙ decided_one given events later one other (beside one_is other_is) job outcome ends other_ends
+  decided_alone = search (decided_one, beside, arith)
 
 pub one_that_meets_by_rows_is_decided : Always OneThatMeetsByRowsIsDecidedAt
 one_that_meets_by_rows_is_decided given events later one other meets job outcome ends other_ends = decided_alone given events later one other meets job outcome ends other_ends
@@ -144,8 +109,7 @@ module _ (given : Opening) (events later : List Event) (one other : Begun given 
   first_now asked unmoved suite mode has = of (row_of (table_of given events).rows suite) (unmoved events [] (suite, mode) (sym (append-nil events)) has)
     where
       of : (found : Option Row) → HasFirstVotes given.c0 found → votes_of_row (fixed_of given) found ≡ given.c0
-      of (Some row) is = is
-      of None is = refl
+      of found h1 = search arith
 
   suite_first : votes_now given events meets.suite ≡ given.c0
   suite_first =

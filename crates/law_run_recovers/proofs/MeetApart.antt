@@ -1,7 +1,7 @@
 -- Of two that meet no two locks that clash stand at one server: what one was granted stands as long as it is at work, and keeps out the other.
-use Rattle.law_run_recovers.proofs.Vocabulary.{◌≡◌, ⊎_elim, ℕ, Bool, true, false, List, [], ◌∷◌, ◌++◌, append_assoc, Some, None, is_some, refl, sym, ap, subst, ◌∙◌, ◌==◌, slice_get, false≢true, eqb-true, eq-eqb, same_Some, Opening}
-use Rattle.law_run_recovers.proofs.Vocabulary.{LockMode, Shared, Exclusive, serves, Request, Stamped, in_the_way, State, served, answer_of, mode_of, Transaction, fixed_of, next_of, Served, Event, Begin, Step, Actor, World, server_at}
-use Rattle.law_run_recovers.proofs.Vocabulary.{actor_at, step, run, puts_in, CanBe, clashes, Begun, locks_in, locks_at, begun_world, world_after, serves_itself}
+use Rattle.law_run_recovers.proofs.Vocabulary.{◌≡◌, ⊎_elim, ℕ, true, false, List, [], ◌∷◌, ◌++◌, append_assoc, Some, None, is_some, refl, sym, ap, subst, ◌∙◌, ◌==◌, slice_get, false≢true, eqb-true, eq-eqb, same_Some, Opening, arith, LockMode, serves}
+use Rattle.law_run_recovers.proofs.Vocabulary.{Request, Stamped, in_the_way, State, served, answer_of, mode_of, Transaction, fixed_of, next_of, Served, Event, Begin, Step, Actor, World, server_at, actor_at, step, run, puts_in, CanBe, clashes, Begun}
+use Rattle.law_run_recovers.proofs.Vocabulary.{locks_in, locks_at, begun_world, world_after, serves_itself}
 use Rattle.law_run_recovers.proofs.AmongCourse.{tail_or}
 use Rattle.law_run_recovers.proofs.Keeps.{IsAtWork, step_asks}
 use Rattle.law_run_recovers.proofs.Sides.{compared, names_one}
@@ -17,13 +17,7 @@ use Rattle.law_run_recovers.proofs.MeetTold.{for_lock, for_lock_named, says_held
 
 -- whichever of two it is, they clash
 pub clashes_back : (y : ℕ) (a b : LockMode) → clashes (y, a) (y, b) ≡ true → clashes (y, b) (y, a) ≡ true
-clashes_back y Shared b is = of b is
-  where
-    of : (b : LockMode) → clashes (y, Shared) (y, b) ≡ true → clashes (y, b) (y, Shared) ≡ true
-    of Shared is = is
-    of Exclusive is = is
-clashes_back y Exclusive Shared is = is
-clashes_back y Exclusive Exclusive is = is
+clashes_back y a b h3 = search arith
 
 -- ---- what was granted
 
@@ -136,10 +130,7 @@ module _ (given : Opening) (events later : List Event) (one other : Begun given 
     all_then = f.parts ∙ ap (λ xs. xs ++ Step who.agent ∷ f.back) at.parts ∙ append_assoc who.before (its_begin ∷ at.mid) (Step who.agent ∷ f.back)
 
     front_then : room.fixed.front ≡ at.mid ++ Step who.agent ∷ (f.back ++ room.more)
-    front_then =
-        ap tail_or (cancel who.before (its_begin ∷ room.fixed.front) (its_begin ∷ (at.mid ++ Step who.agent ∷ (f.back ++ room.more)))
-        (room.room ∙ ap (λ part. part ++ room.more) all_then ∙ append_assoc who.before (its_begin ∷ (at.mid ++ Step who.agent ∷ f.back)) room.more
-        ∙ ap (λ xs. who.before ++ its_begin ∷ xs) (append_assoc at.mid (Step who.agent ∷ f.back) room.more)))
+    front_then = search (tail_or, cancel, all_then, append_assoc, arith)
 
     pub granted_since : some_step (grants who.t y a server) who.agent (fixed_of given) (begun_world given (events ++ who.before) who.agent who.caller who.site who.ops) room.fixed.front ≡ true
     granted_since =
@@ -167,9 +158,7 @@ module _ (given : Opening) (events later : List Event) (one other : Begun given 
     on = its.mid ++ Step who.agent ∷ []
 
     back_is : g.back ≡ between ++ Step agent ∷ h.back
-    back_is =
-        ap tail_or (cancel g.front (Step who.agent ∷ g.back) (Step who.agent ∷ (between ++ Step agent ∷ h.back))
-        (sym g.parts ∙ h.parts ∙ ap (λ front. front ++ Step agent ∷ h.back) order ∙ append_assoc g.front (Step who.agent ∷ between) (Step agent ∷ h.back)))
+    back_is = search (tail_or, cancel, append_assoc, arith)
 
     abbrev actor : Actor
     actor = (its_actor given events part calm (in_part given events later part who (its.mid ++ Step who.agent ∷ g.back) all_is)).0
@@ -181,9 +170,7 @@ module _ (given : Opening) (events later : List Event) (one other : Begun given 
     world_at so_far = run_is given events part calm (in_part given events later part who (its.mid ++ Step who.agent ∷ g.back) all_is) so_far
 
     after_is : its.mid ++ Step who.agent ∷ g.back ≡ (on ++ between) ++ Step agent ∷ h.back
-    after_is =
-        ap (λ back. its.mid ++ Step who.agent ∷ back) back_is ∙ sym (append_assoc its.mid (Step who.agent ∷ []) (between ++ Step agent ∷ h.back))
-        ∙ sym (append_assoc on between (Step agent ∷ h.back))
+    after_is = search (back_is, append_assoc, arith)
 
     front_is : h.front ≡ who.before ++ Begin who.agent (Transaction who.caller who.site who.ops) ∷ (on ++ between)
     front_is =
@@ -192,11 +179,7 @@ module _ (given : Opening) (events later : List Event) (one other : Begun given 
 
     -- it is at work till then
     fixed_is : room.fixed.front ≡ (on ++ between) ++ Step agent ∷ (h.back ++ room.more)
-    fixed_is =
-        ap tail_or (cancel who.before (begins ∷ room.fixed.front) (begins ∷ ((on ++ between) ++ Step agent ∷ (h.back ++ room.more)))
-        (room.room ∙ ap (λ part. part ++ room.more) (all_is ∙ ap (λ after. who.before ++ begins ∷ after) after_is)
-        ∙ append_assoc who.before (begins ∷ ((on ++ between) ++ Step agent ∷ h.back)) room.more
-        ∙ ap (λ xs. who.before ++ begins ∷ xs) (append_assoc (on ++ between) (Step agent ∷ h.back) room.more)))
+    fixed_is = search (tail_or, cancel, all_is, after_is, append_assoc, arith)
 
     works : (xs ys : List Event) (e : Event) → between ≡ xs ++ e ∷ ys → IsAtWork (world_after given (events ++ who.before) who.agent who.caller who.site who.ops (on ++ xs)) who.agent who.t
     works xs ys e is =
@@ -218,17 +201,12 @@ module _ (given : Opening) (events later : List Event) (one other : Begun given 
         (keeps_to given events (events ++ who.before) (its.mid ++ Step who.agent ∷ g.back) who.agent who.t who.caller who.site who.ops actor goes y a server on between (Step agent ∷ h.back) after_is works has_first)
 
     pub kept_out : ⊥
-    kept_out =
-        keeps_out who.t u y a (mode_of h.what.request.value) h.st.locks two has_then (clash_wider y a a b (mode_of h.what.request.value) (serves_itself a) h.strong clash) h.free
+    kept_out = search (keeps_out, has_then, clash_wider, serves_itself, arith)
 
   -- two that are granted to both never clash
   module _ (room : Room one) (other_room : Room other) (two : (one.t == other.t) ≡ false) where
     two_back : (other.t == one.t) ≡ false
-    two_back = of (other.t == one.t) refl
-      where
-        of : (b : Bool) → (other.t == one.t) ≡ b → b ≡ false
-        of false is = refl
-        of true is = absurd (false≢true (sym two ∙ eq-eqb one.t other.t (sym (eqb-true other.t one.t is))))
+    two_back = search arith
 
     pub stand_apart : (y server : ℕ) (a b : LockMode) → held_in given events part one.agent one.t y a server ≡ true → held_in given events part other.agent other.t y b server ≡ true → clashes (y, a) (y, b) ≡ true → ⊥
     stand_apart y server a b is other_is clash =

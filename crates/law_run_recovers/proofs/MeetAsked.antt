@@ -1,6 +1,6 @@
 -- In a calm run each lock that there is one asked for that began there, and it asks for it on the first table.
-use Rattle.law_run_recovers.proofs.Vocabulary.{all_idle, no_locks, Contains, List, Some, [], append-nil, refl, sym, true, ℕ, ◌++◌, ◌∷◌, ◌≡◌, Has, State, Lock, run, server_at, step, Served, Event, Step, mode_of, Opening, LockMode, fixed_of}
-use Rattle.law_run_recovers.proofs.Vocabulary.{Begun, votes_now, asks_for}
+use Rattle.law_run_recovers.proofs.Vocabulary.{all_idle, no_locks, Contains, List, Some, [], append-nil, refl, sym, true, ℕ, ◌++◌, ◌∷◌, ◌≡◌, Has, State, Lock, run, server_at, step, Served, Event, Step, mode_of, Opening, LockMode, fixed_of, Begun}
+use Rattle.law_run_recovers.proofs.Vocabulary.{votes_now, asks_for}
 use Rattle.law_run_recovers.proofs.MeetBoth.{Place, third, place_of, held_in, none_first, reached_then}
 use Rattle.law_run_recovers.proofs.MeetCalm.{Calm, Ours}
 use Rattle.law_run_recovers.proofs.MeetLocks.{owned_at}

@@ -1,8 +1,7 @@
 -- What a transaction sets votes of it asks for exclusively.
-use Rattle.law_run_recovers.proofs.Vocabulary.{◌≡◌, ◌⊎◌, inl, inr, ⊎_elim, ℕ, Bool, true, false, cond, List, [], ◌∷◌, Option, Some, None, Result, Ok, Err, Less, Equal, Greater, refl, ap, subst, ◌∙◌, ◌==◌, ◌&&◌, ◌||◌, filter, list_any}
-use Rattle.law_run_recovers.proofs.Vocabulary.{nat_cmp, match_ordering, Ordering, false≢true, eqb-true, eq-eqb, insert, Identity, Configuration, LockMode, Exclusive, serves, Answer, Op, Refusal, PlainTable, Row, row_of, Change, Edit, Need}
-use Rattle.law_run_recovers.proofs.Vocabulary.{Hold, Know, with_change, changes_at, Course, Give, Refuse, Look, Read, Set, Edits, Ended, is_set, unless_set, looked, content_read, needs, ending, transaction, Has, has_filter, has_map}
-use Rattle.law_run_recovers.proofs.Vocabulary.{has_asked, not_asked, locks_asked, change_in, changes_on, votes_set, or_right, or_cases, serves_itself, tied}
+use Rattle.law_run_recovers.proofs.Vocabulary.{◌≡◌, ◌⊎◌, inl, inr, ⊎_elim, ℕ, Bool, true, false, cond, List, [], ◌∷◌, Option, Result, Ok, Err, refl, ap, subst, ◌∙◌, ◌==◌, list_any, arith, nat_cmp, false≢true, eqb-true, eq-eqb, insert, Identity}
+use Rattle.law_run_recovers.proofs.Vocabulary.{Configuration, LockMode, Exclusive, Answer, Op, Refusal, PlainTable, Row, row_of, Change, Edit, Need, Hold, Know, changes_at, Course, Give, Refuse, Look, Read, Set, Edits, Ended, is_set, unless_set}
+use Rattle.law_run_recovers.proofs.Vocabulary.{looked, content_read, needs, ending, transaction, Has, has_filter, has_map, has_asked, not_asked, locks_asked, change_in, changes_on, votes_set, or_right, or_cases, serves_itself, tied}
 use Rattle.law_run_recovers.proofs.Asked.{asked_exclusive}
 use Rattle.law_run_recovers.proofs.Asking.{suite_in, mode_in, is_hold}
 
@@ -26,8 +25,7 @@ sets_needed rows z edits (Read suite later) ended is any =
     ⊎_elim (λ old. inl old) (λ has. inr (of (is_set edits suite) has)) (sets_needed rows z edits (later (content_read rows edits suite)) ended is any)
   where
     of : (b : Bool) → Has (needs rows edits (later (content_read rows edits suite))) (Hold z Exclusive) → Has (unless_set b suite (needs rows edits (later (content_read rows edits suite)))) (Hold z Exclusive)
-    of true has = has
-    of false has = inr has
+    of b h1 = search arith
 sets_needed rows z edits (Set suite edit later) ended is any =
     ⊎_elim
     (λ old. ⊎_elim (λ here. inr (inl (ap (λ n. Hold n Exclusive) (eqb-true suite z here)))) (λ before. inl before) (or_cases (suite == z) (list_any (at z) edits) old))
@@ -38,26 +36,12 @@ sets_needed rows z edits (Set suite edit later) ended is any =
 
 has_insert : (all : List (ℕ × Change)) (key : ℕ) (value : Change) (one : ℕ × Change) → Has (insert nat_cmp all key value) one → (key ≡ one.0) ⊎ Has all one
 has_insert [] key value one has = ⊎_elim (λ same. inl (ap (λ (one : ℕ × Change). one.0) same)) (λ none. absurd none) has
-has_insert (e ∷ es) key value one has = of (nat_cmp key e.0) refl (has_insert es key value one) has
-  where
-    of : (o : Ordering) → nat_cmp key e.0 ≡ o → (Has (insert nat_cmp es key value) one → (key ≡ one.0) ⊎ Has es one)
-        → Has (match_ordering o ((key, value) ∷ e ∷ es) ((e.0, value) ∷ es) (e ∷ insert nat_cmp es key value)) one → (key ≡ one.0) ⊎ Has (e ∷ es) one
-    of Less is go has = ⊎_elim (λ same. inl (ap (λ (one : ℕ × Change). one.0) same)) (λ old. inr old) has
-    of Equal is go has = ⊎_elim (λ same. inl (tied key e.0 is ∙ ap (λ (one : ℕ × Change). one.0) same)) (λ old. inr (inr old)) has
-    of Greater is go has = ⊎_elim (λ same. inr (inl same)) (λ old. ⊎_elim (λ at'. inl at') (λ old. inr (inr old)) (go old)) has
+has_insert (e ∷ es) key value one has = search (tied, has_insert es key value one, arith)
 
 -- what changes was edited
 changed_at : (f : ℕ → Option Change) (edits : Edits) (one : ℕ × Change) → Has (changes_at f edits) one → list_any (at one.0) edits ≡ true
 changed_at f [] one has = absurd has
-changed_at f (e ∷ edits) one has = of (f e.0) (changed_at f edits one) has
-  where
-    of : (found : Option Change) → (Has (changes_at f edits) one → list_any (at one.0) edits ≡ true) → Has (with_change e.0 found (changes_at f edits)) one → list_any (at one.0) (e ∷ edits) ≡ true
-    of None go has = or_right (e.0 == one.0) (list_any (at one.0) edits) (go has)
-    of (Some change) go has =
-        ⊎_elim
-        (λ same. ap (λ b. b || list_any (at one.0) edits) (eq-eqb e.0 one.0 same))
-        (λ old. or_right (e.0 == one.0) (list_any (at one.0) edits) (go old))
-        (has_insert (changes_at f edits) e.0 change one has)
+changed_at f (e ∷ edits) one has = search (or_right, eq-eqb, has_insert, changed_at f edits one, arith)
 
 -- ---- what is needed is asked for
 
@@ -69,19 +53,7 @@ needed_asked (Hold s k ∷ needed) asked z mode has = of (has_asked asked s k) r
     of : (b : Bool) → has_asked asked s k ≡ b → ((asked : List (ℕ × LockMode)) → Has needed (Hold z mode)
         → (has_asked asked z mode ≡ true) ⊎ (has_asked (not_asked asked needed) z mode ≡ true)) → (Hold s k ≡ Hold z mode) ⊎ Has needed (Hold z mode)
         → (has_asked asked z mode ≡ true) ⊎ (has_asked (cond b (not_asked asked needed) ((s, k) ∷ not_asked ((s, k) ∷ asked) needed)) z mode ≡ true)
-    of true is go (inl same) = inl (subst (λ z. has_asked asked z mode ≡ true) (ap suite_in same) (subst (λ mode. has_asked asked s mode ≡ true) (ap mode_in same) is))
-    of true is go (inr later) = go asked later
-    of false is go (inl same) =
-        inr (ap (λ b. (b && serves k mode) || has_asked (not_asked ((s, k) ∷ asked) needed) z mode) (eq-eqb s z (ap suite_in same))
-        ∙ ap (λ b. b || has_asked (not_asked ((s, k) ∷ asked) needed) z mode) (subst (λ mode. serves k mode ≡ true) (ap mode_in same) (serves_itself k)))
-    of false is go (inr later) =
-        ⊎_elim
-        (λ had. ⊎_elim
-        (λ here. inr (ap (λ b. b || has_asked (not_asked ((s, k) ∷ asked) needed) z mode) here))
-        (λ before. inl before)
-        (or_cases ((s == z) && serves k mode) (has_asked asked z mode) had))
-        (λ rest. inr (or_right ((s == z) && serves k mode) (has_asked (not_asked ((s, k) ∷ asked) needed) z mode) rest))
-        (go ((s, k) ∷ asked) later)
+    of b h1 h2 h3 = search (suite_in, mode_in, eq-eqb, serves_itself, or_cases, or_right, arith)
 
 -- ---- so what it sets votes of it asks for exclusively
 
@@ -92,9 +64,7 @@ sets_asked table t caller ops set has =
     (of (ending (row_of table.rows) [] (transaction table.service t caller ops)) refl (changed.1, changed.2))))
   where
     changed : (one : ℕ × Change) × Has (changes_on table.rows (ending (row_of table.rows) [] (transaction table.service t caller ops))) one × (one.0 ≡ set.0)
-    changed =
-        let was = has_map (λ (one : ℕ × Change). (one.0, one.1.row.votes)) (filter (λ (one : ℕ × Change). one.1.votes) (changes_on table.rows (ending (row_of table.rows) [] (transaction table.service t caller ops)))) set has in
-        (was.0, (has_filter (λ (one : ℕ × Change). one.1.votes) _ was.0 was.1).0, ap (λ (one : ℕ × Configuration). one.0) was.2)
+    changed = search (has_map, has_filter, arith)
 
     of : (result : Result (Ended (List Answer)) Refusal) → ending (row_of table.rows) [] (transaction table.service t caller ops) ≡ result → Has (changes_on table.rows result) changed.0 × (changed.0.0 ≡ set.0)
         → Has (needs (row_of table.rows) [] (transaction table.service t caller ops)) (Hold set.0 Exclusive)

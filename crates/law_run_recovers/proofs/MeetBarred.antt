@@ -1,7 +1,7 @@
 -- One that meets another and is refused a lock: it asked for it, and a lock of the other was in the way there.
-use Rattle.law_run_recovers.proofs.Vocabulary.{Bool, List, None, Option, Some, ap, append_assoc, cond, false, is_some, not, refl, subst, sym, true, ℕ, ◌&&◌, ◌++◌, ◌==◌, ◌||◌, ◌∙◌, ◌∷◌, ◌≡◌, and_from, and_parts, eq-eqb, eqb-true, false≢true}
-use Rattle.law_run_recovers.proofs.Vocabulary.{same_Some, find_some, Has, conflicts, has_lock, in_the_way, locking_reply, reply_down, reply_of, reply_up, answer_of, State, copy_of, Lock, Request, Stamped, run, Actor, World, actor_at}
-use Rattle.law_run_recovers.proofs.Vocabulary.{server_at, step, Served, Event, Begin, Step, mode_of, is_exclusive, serves, Opening, LockMode, Exclusive, fixed_of, next_of, Transaction, Begun, clashes, votes_now, asks_for, begun_world}
+use Rattle.law_run_recovers.proofs.Vocabulary.{List, None, Option, Some, ap, append_assoc, false, is_some, not, refl, subst, sym, true, ℕ, ◌++◌, ◌==◌, ◌∙◌, ◌∷◌, ◌≡◌, and_parts, eq-eqb, eqb-true, false≢true, arith, same_Some, find_some, Has}
+use Rattle.law_run_recovers.proofs.Vocabulary.{conflicts, in_the_way, locking_reply, reply_of, answer_of, State, copy_of, Lock, Request, Stamped, run, Actor, World, actor_at, server_at, step, Served, Event, Begin, Step, mode_of, serves, Opening}
+use Rattle.law_run_recovers.proofs.Vocabulary.{LockMode, fixed_of, next_of, Transaction, Begun, clashes, votes_now, asks_for, begun_world}
 use Rattle.rep_core.specs.declared.request.Request.TheVariants as request
 use Rattle.rep_core.specs.declared.reply.Reply.TheVariants as reply
 use Rattle.law_run_recovers.proofs.Keeps.{step_asks}
@@ -26,16 +26,7 @@ not_same : (a t : ℕ) → not (a == t) ≡ true → a ≡ t → ⊥
 not_same a t is same = false≢true (ap not (sym (eq-eqb a t same)) ∙ is)
 
 way_of : (t z : ℕ) (mode : LockMode) (locks : List Lock) (lock : Lock) → Has locks lock → conflicts t z mode lock ≡ true → Way t z mode locks
-way_of t z mode locks lock has is =
-    let parts = and_parts ((lock.suite == z) && not (lock.t == t)) (is_exclusive mode || is_exclusive lock.mode) is in
-    let two = and_parts (lock.suite == z) (not (lock.t == t)) parts.0 in
-    record {
-      lock = lock;
-      has = has;
-      suite = eqb-true lock.suite z two.0;
-      not_own = not_same lock.t t two.1;
-      clashing = and_from (z == z) (is_exclusive mode || is_exclusive lock.mode) (eq-eqb z z refl) parts.1;
-    }
+way_of t z mode locks lock has is = search arith
 
 refused_poll : (st : State) (t z : ℕ) (mode : LockMode) → says_busy (locking_reply (in_the_way t z mode st.locks) (copy_of st.store z)) ≡ true → Way t z mode st.locks
 refused_poll st t z mode said = of (in_the_way t z mode st.locks) refl said
@@ -45,26 +36,7 @@ refused_poll st t z mode said = of (in_the_way t z mode st.locks) refl said
     of (Some lock) is said = let some = find_some (conflicts t z mode) st.locks lock is in way_of t z mode st.locks lock some.0 some.1
 
 refused_way : (t z : ℕ) (st : State) (asked : Request) → st.up ≡ true → for_lock t z asked ≡ true → says_busy (reply_of st asked) ≡ true → Way t z (mode_of asked) st.locks
-refused_way t z st (request.Poll u s mode) up lock said =
-    let parts = and_parts (u == t) (s == z) lock in
-    subst (λ t. Way t z mode st.locks) (eqb-true u t parts.0)
-    (subst (λ z. Way u z mode st.locks) (eqb-true s z parts.1)
-    (refused_poll st u s mode (ap (λ b. says_busy (cond b (reply_up st (request.Poll u s mode)) (reply_down (request.Poll u s mode)))) (sym up) ∙ said)))
-refused_way t z st (request.Upgrade u s) up lock said = of (has_lock u s st.locks) refl
-  where
-    parts : ((u == t) ≡ true) × ((s == z) ≡ true)
-    parts = and_parts (u == t) (s == z) lock
-
-    said_up : says_busy (reply_up st (request.Upgrade u s)) ≡ true
-    said_up = ap (λ b. says_busy (cond b (reply_up st (request.Upgrade u s)) (reply_down (request.Upgrade u s)))) (sym up) ∙ said
-
-    of : (b : Bool) → has_lock u s st.locks ≡ b → Way t z Exclusive st.locks
-    of true is =
-        subst (λ t. Way t z Exclusive st.locks) (eqb-true u t parts.0)
-        (subst (λ z. Way u z Exclusive st.locks) (eqb-true s z parts.1)
-        (refused_poll st u s Exclusive (ap (λ b. says_busy (cond b (locking_reply (in_the_way u s Exclusive st.locks) (copy_of st.store s)) reply.Lost)) (sym is) ∙ said_up)))
-    of false is = absurd (false≢true (sym (ap (λ b. says_busy (cond b (locking_reply (in_the_way u s Exclusive st.locks) (copy_of st.store s)) reply.Lost)) is) ∙ said_up))
-refused_way t z st other up lock said = absurd (false≢true lock)
+refused_way t z st asked h4 h5 h6 = search (and_parts, eqb-true, refused_poll, says_busy, false≢true, arith)
 
 -- ---- in a part of the run
 
@@ -96,9 +68,7 @@ module _ (given : Opening) (events later part : List Event) {still : ℕ → Typ
     w = run given (events ++ so_far)
 
     split : part ≡ so_far ++ Step who.agent ∷ f.back
-    split =
-        parts ∙ ap (λ after. who.before ++ its_event given events later who ∷ after) f.parts
-        ∙ sym (append_assoc who.before (its_event given events later who ∷ f.front) (Step who.agent ∷ f.back))
+    split = search (its_event, append_assoc, arith)
 
     served' : (step (fixed_of given) (run given (events ++ so_far)) (Step who.agent)).done.served ≡ Some f.what
     served' =

@@ -1,9 +1,8 @@
 -- Votes of a suite that were found are the row's, or some of them is of a server that shows a newer prefix; and in every quorum of the row's votes some server shows the
 -- row's prefix. So it is where all servers are up and what is stored is in effect.
-use Rattle.law_run_recovers.proofs.Vocabulary.{◌≡◌, ◌⊎◌, inl, inr, ⊎_elim, ℕ, ◌+◌, ◌<◌, ◌≤◌, Bool, true, false, cond, List, [], ◌∷◌, length, Option, Some, None, refl, sym, ap, subst, ◌∙◌, arith, ◌==◌, ◌&&◌, nat_lt, All, false≢true}
-use Rattle.law_run_recovers.proofs.Vocabulary.{and_parts, and_from, or_cases, eqb-true, le-leb, nat_tests, slice_get_within, Representative, Configuration, votes_in, votes_at, total_votes, IsValid, Opening, Prefix, LockMode, Shared}
-use Rattle.law_run_recovers.proofs.Vocabulary.{Exclusive, State, Has, contains_from, All-contains, needed_of, fixed_of, Event, server_at, run, row, prefix_at, WasPrefix, IsQuorum, effect, Inv, beginning, machine_of, row_at, CanBe, all_keep}
-use Rattle.law_run_recovers.proofs.Vocabulary.{all_up, so_many, is_up, shown_at, shown_in, newer_by, votes_now}
+use Rattle.law_run_recovers.proofs.Vocabulary.{◌≡◌, ◌⊎◌, inl, inr, ⊎_elim, ℕ, ◌+◌, ◌<◌, ◌≤◌, Bool, true, false, List, [], ◌∷◌, length, Option, Some, None, refl, sym, ap, subst, ◌∙◌, arith, ◌==◌, nat_lt, All, false≢true, and_parts, and_from, or_cases}
+use Rattle.law_run_recovers.proofs.Vocabulary.{eqb-true, le-leb, nat_tests, slice_get_within, Representative, Configuration, votes_in, votes_at, total_votes, IsValid, Opening, Prefix, LockMode, State, Has, contains_from, needed_of, fixed_of, Event}
+use Rattle.law_run_recovers.proofs.Vocabulary.{server_at, run, row, prefix_at, WasPrefix, IsQuorum, effect, Inv, beginning, machine_of, row_at, CanBe, all_keep, all_up, so_many, is_up, shown_at, shown_in, newer_by, votes_now}
 use Rattle.law_one_table.proofs.Effects as effects
 use Rattle.law_run_recovers.proofs.Found.{Answering, has_vote, voting, still_quorum, none_newer}
 use Rattle.law_run_recovers.proofs.Free.{is_up_of}
@@ -14,30 +13,17 @@ use Rattle.law_run_recovers.proofs.RowVotes.{ListsKnown, row_known}
 
 rep_with : (reps : List Representative) (server : ℕ) → 0 < votes_at reps server → (rep : Representative) × Has reps rep × (rep.0 ≡ server)
 rep_with [] server some = absurd (omega (arith, some))
-rep_with (rep ∷ reps) server some = of (rep.0 == server) refl (rep_with reps server) some
-  where
-    of : (b : Bool) → (rep.0 == server) ≡ b → (0 < votes_at reps server → (one : Representative) × Has reps one × (one.0 ≡ server)) → 0 < cond b rep.1 0 + votes_at reps server
-        → (one : Representative) × Has (rep ∷ reps) one × (one.0 ≡ server)
-    of true is go some = (rep, inl refl, eqb-true rep.0 server is)
-    of false is go some = let rest = go (omega (arith, some)) in (rest.0, inr rest.1, rest.2)
+rep_with (rep ∷ reps) server some = search (eqb-true, rep_with reps server, arith)
 
 known_voter : (servers : ℕ) (reps : List Representative) (server : ℕ) → All (λ (rep : Representative). rep.0 < servers) reps → 0 < votes_at reps server → server < servers
-known_voter servers reps server all some =
-    let rep = rep_with reps server some in
-    subst (λ s. s < servers) rep.2 (All-contains (λ (rep : Representative). rep.0 < servers) reps rep.0 all (contains_from reps rep.0 rep.1))
+known_voter servers reps server all some = search (rep_with, contains_from, arith)
 
 some_and : (a b : ℕ) → nat_lt 0 a ≡ true → 0 < a + b
 some_and a b some = grind (arith, nat_tests)
 
 has_votes : (reps : List Representative) (server : ℕ) → has_vote reps server ≡ true → 0 < votes_at reps server
 has_votes [] server is = absurd (false≢true is)
-has_votes (rep ∷ reps) server is =
-    ⊎_elim
-    (λ now.
-    let parts = and_parts (rep.0 == server) (nat_lt 0 rep.1) now in
-    subst (λ b. 0 < cond b rep.1 0 + votes_at reps server) (sym parts.0) (some_and rep.1 (votes_at reps server) parts.1))
-    (λ later. let rest = has_votes reps server later in omega (arith, rest))
-    (or_cases ((rep.0 == server) && nat_lt 0 rep.1) (has_vote reps server) is)
+has_votes (rep ∷ reps) server is = search (and_parts, nat_lt, some_and, or_cases, has_vote, has_votes reps server, arith)
 
 all_votes : (reps : List Representative) → votes_in reps (λ _. true) ≡ total_votes reps
 all_votes [] = refl
@@ -84,8 +70,7 @@ module _ (given : Opening) (events : List Event) (can : CanBe given events) (up 
       }
     where
       as_shown : (n m : ℕ) (e s : Prefix) → e ≡ s → (n < e.pver) ⊎ (e.pver ≡ m) → (n < s.pver) ⊎ (m ≤ s.pver)
-      as_shown n m e s same (inl above) = inl (subst (λ (p : Prefix). n < p.pver) same above)
-      as_shown n m e s same (inr is) = inr (subst (λ (p : Prefix). m ≤ p.pver) same (omega (arith, is)))
+      as_shown n m e s h4 h5 = search arith
 
   row_was : (z : ℕ) → WasPrefix (beginning z given) (machine_of given z events).log (row (beginning z given) (machine_of given z events).log).prefix
   row_was z = (omega arith, (inv z).logged.own.0.1)
@@ -104,8 +89,7 @@ module _ (given : Opening) (events : List Event) (can : CanBe given events) (up 
       (x.server, has_votes newest.votes.reps x.server x.voter, x.in_set, ⊎_elim (λ above. omega (arith, above)) (λ most. most) x.shows))
     where
       quorum : (mode : LockMode) (v : Configuration) → needed_of mode v ≤ votes_in v.reps set → IsQuorum v set
-      quorum Shared v enough = inl (le-leb v.r (votes_in v.reps set) enough)
-      quorum Exclusive v enough = inr (le-leb v.w (votes_in v.reps set) enough)
+      quorum mode v h2 = search (le-leb, arith)
 
   -- and nobody shows a newer one
   pub bound : (z : ℕ) → Shown z → (server : ℕ) → 0 < shown z server → shown z server ≤ top z

@@ -1,9 +1,9 @@
 -- Transactions that begin in a calm run: where each asks for a lock, what it had before, and that each lock in its name was granted to it.
-use Rattle.law_run_recovers.proofs.Vocabulary.{◌*◌, false≢true, all_idle, no_locks, holds_of, ◌<◌, Bool, ◌+◌, CanBe, agent_of, agent_at, Agent, List, None, Option, Some, [], ap, append-nil, append_assoc, arith, false, length, refl, subst}
-use Rattle.law_run_recovers.proofs.Vocabulary.{suc, sym, true, ℕ, ⊎_elim, ◌++◌, ◌==◌, ◌∙◌, ◌∷◌, ◌≡◌, ◌⊎◌, eq-eqb, after, eqb-true, none-some, same_Some, cons_option, at_has, begins_job, has_append, IsNotDecided, Has, all_at, has_from}
-use Rattle.law_run_recovers.proofs.Vocabulary.{State, Lock, decisions_from-append, Decided, answer_in, decided, decided_as, decided_at, decided_by, decisions, decisions_from, task_at, run, Actor, World, actor_at, opening, server_at, step}
-use Rattle.law_run_recovers.proofs.Vocabulary.{Served, Event, Begin, Crash, Forget, Lack, Return, Step, mode_of, serves, Opening, LockMode, fixed_of, next_of, is_decide, Job, Transaction, Begun, votes_now, asks_for, begun_world}
-use Rattle.law_run_recovers.proofs.Vocabulary.{world_after, serves_itself, Rises, agents_ask_for_themselves, counts_rise, AsksForItself, AsksToSweep, all_named, not_begun, no_decide}
+use Rattle.law_run_recovers.proofs.Vocabulary.{◌*◌, false≢true, all_idle, no_locks, holds_of, ◌<◌, Bool, ◌+◌, CanBe, agent_of, agent_at, Agent, List, None, Option, Some, [], ap, append-nil, append_assoc, arith, false, length, refl, subst, suc, sym}
+use Rattle.law_run_recovers.proofs.Vocabulary.{true, ℕ, ⊎_elim, ◌++◌, ◌==◌, ◌∙◌, ◌∷◌, ◌≡◌, ◌⊎◌, eq-eqb, after, eqb-true, none-some, same_Some, cons_option, at_has, has_append, IsNotDecided, Has, all_at, has_from, State, Lock, decisions_from-append}
+use Rattle.law_run_recovers.proofs.Vocabulary.{Decided, decided, decisions, decisions_from, run, Actor, World, actor_at, opening, server_at, step, Served, Event, Begin, Crash, Forget, Lack, Return, Step, mode_of, serves, Opening, LockMode, fixed_of}
+use Rattle.law_run_recovers.proofs.Vocabulary.{next_of, is_decide, Job, Transaction, Begun, votes_now, asks_for, begun_world, world_after, serves_itself, Rises, agents_ask_for_themselves, counts_rise, AsksForItself, AsksToSweep, all_named, not_begun}
+use Rattle.law_run_recovers.proofs.Vocabulary.{no_decide}
 use Rattle.law_run_recovers.proofs.AmongCourse.{head_or, tail_or}
 use Rattle.law_run_recovers.proofs.BesideUnmet.{begins_there}
 use Rattle.law_run_recovers.proofs.Busy.{busy_one, one_named}
@@ -48,20 +48,7 @@ pub record IsSame (given : Opening) (events later : List Event) (b who : Begun g
   pub after : b.after ≡ who.after
 
 pub same_place : (given : Opening) (events later : List Event) (b who : Begun given events later) → b.before ≡ who.before → IsSame given events later b who
-same_place given events later b who same = record { event = event'; t = number; after = ap tail_or rest }
-  where
-    rest : Begin b.agent (Transaction b.caller b.site b.ops) ∷ b.after ≡ Begin who.agent (Transaction who.caller who.site who.ops) ∷ who.after
-    rest = cancel who.before _ _ (ap (λ before. before ++ its_event given events later b ∷ b.after) (sym same) ∙ sym b.parts ∙ who.parts)
-
-    event' : Begin b.agent (Transaction b.caller b.site b.ops) ≡ Begin who.agent (Transaction who.caller who.site who.ops)
-    event' = ap (head_or (its_event given events later b)) rest
-
-    number : b.t ≡ who.t
-    number =
-        ap (λ (pair : ℕ × Job). pair.0)
-        (same_Some (b.t, Transaction b.caller b.site b.ops) (who.t, Transaction who.caller who.site who.ops)
-        (sym b.begins ∙ ap (λ xs. begins_job given (run given (events ++ xs)) (its_event given events later b)) same
-        ∙ ap (begins_job given (run given (events ++ who.before))) event' ∙ who.begins))
+same_place given events later b who same = search (tail_or, cancel, head_or, same_Some, arith)
 
 -- who granted a transaction a lock in a part of a run
 abbrev pub held_in : Opening → List Event → List Event → ℕ → ℕ → ℕ → LockMode → ℕ → Bool
@@ -205,13 +192,10 @@ module _ (given : Opening) (events later : List Event) where
         now has = of (decided (fixed_of given) (run given (events ++ so_far)) (Step i)) refl has
           where
             none : decided (fixed_of given) (run given (events ++ so_far)) (Step i) ≡ None
-            none =
-                ap (decided_by (run given (events ++ so_far)) (task_at (actor_at (run given (events ++ so_far)) i))) served
-                ∙ ap (λ asked. decided_at (server_at (run given (events ++ so_far)) what.server) asked (decided_as (task_at (actor_at (run given (events ++ so_far)) i)) (answer_in what.reply.value))) (no_decide what.request.value asks_not)
+            none = search (no_decide, asks_not, arith)
 
             of : (found : Option Decided) → decided (fixed_of given) (run given (events ++ so_far)) (Step i) ≡ found → Has (cons_option found []) d → ⊥
-            of None is has = has
-            of (Some other) is has = none-some other (sym none ∙ is)
+            of found h1 h2 = search (none-some, none, arith)
 
     pub reached_then : Reached (votes_now given events) (asks_for given events who.t who.caller who.ops) (held_in given events part who.agent who.t) (z, mode_of what.request.value)
     reached_then =
@@ -339,13 +323,7 @@ module _ (given : Opening) (events later : List Event) (can : CanBe given (event
 
     pub granted_now : (so_far back : List Event) (i : ℕ) → part ≡ so_far ++ Step i ∷ back → (what : Served) → (step (fixed_of given) (run given (events ++ so_far)) (Step i)).done.served ≡ Some what
         → (t z : ℕ) → for_lock t z what.request.value ≡ true → says_held what.reply.value ≡ true → t ≡ who.t → IsGranted what.server t z (mode_of what.request.value)
-    granted_now so_far back i split what served t z lock held' same =
-        let at = place part rest whole calm.fair so_far back i split what served t z lock who same in
-        record {
-          number = same;
-          reached = reached_then given events later part calm who ours so_far back i split what served t z lock at;
-          held = held_then given events later part calm who ours so_far back i split what served t z lock at held';
-        }
+    granted_now so_far back i split what served t z lock held' same = search (place, reached_then, held_then, arith)
 
     -- each of its locks it was granted
     pub all_granted : (so_far back : List Event) → part ≡ so_far ++ back → (s : ℕ) (st : State) → server_at (run given (events ++ so_far)) s ≡ Some st → (lock : Lock) → Has st.locks lock

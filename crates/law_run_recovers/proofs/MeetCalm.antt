@@ -1,8 +1,8 @@
 -- A run in which all servers are up and nothing upsets it. It is calm where rows, prefixes and stored copies of some suites stand still meanwhile.
-use Rattle.law_run_recovers.proofs.Vocabulary.{List, None, Option, Some, [], ap, append-nil, append_assoc, false, inl, Bool, is_some, refl, subst, sym, true, ℕ, ◌++◌, ◌∙◌, ◌∷◌, ◌≡◌, false≢true, cons_option, Identity, Op, CanBe, all_at}
-use Rattle.law_run_recovers.proofs.Vocabulary.{at_has, has_any, Running, RunningSweep, eq-eqb, is_up, can_front, run_more, AllAt, begins_job, machine_of, append_has_left, append_has_right, beginning, WasPrefix, Has, State, copy_of, row_of}
-use Rattle.law_run_recovers.proofs.Vocabulary.{decisions_from-append, Decided, decided, decisions, decisions_from, run, table_of, Actor, actor_at, opening, server_at, step, Event, Begin, IsAccepted, Opening, Prefix, fixed_of, is_idle}
-use Rattle.law_run_recovers.proofs.Vocabulary.{Doing, Sweep, Begun, asks_for, hinders_itself, is_running, runs, sweeps_now, upsets}
+use Rattle.law_run_recovers.proofs.Vocabulary.{List, None, Option, Some, [], ap, append-nil, append_assoc, false, Bool, is_some, refl, subst, sym, true, ℕ, ◌++◌, ◌∙◌, ◌∷◌, ◌≡◌, false≢true, Identity, Op, CanBe, all_at, arith, at_has, has_any, Running}
+use Rattle.law_run_recovers.proofs.Vocabulary.{RunningSweep, eq-eqb, is_up, can_front, run_more, AllAt, begins_job, machine_of, append_has_left, append_has_right, beginning, WasPrefix, Has, State, copy_of, row_of, decisions_from-append, Decided}
+use Rattle.law_run_recovers.proofs.Vocabulary.{decided, decisions, decisions_from, run, table_of, Actor, actor_at, server_at, step, Event, Begin, IsAccepted, Opening, Prefix, fixed_of, is_idle, Doing, Sweep, Begun, asks_for, hinders_itself}
+use Rattle.law_run_recovers.proofs.Vocabulary.{is_running, runs, sweeps_now, upsets}
 use Rattle.law_run_recovers.specs.MeetsBeside.{GoesOn}
 use Rattle.law_run_recovers.proofs.Busy.{BusyWith, busy_by}
 use Rattle.law_run_recovers.proofs.Found.{Answering}
@@ -38,19 +38,11 @@ Ours given events later still one = IsOurs given events later still one.agent on
 -- so it is in a front
 pub ours_front : (given : Opening) (events later so_far rest : List Event) (still : ℕ → Type 0) (agent t : ℕ) (caller : Identity) (ops : List Op) → later ≡ so_far ++ rest
     → IsOurs given events later still agent t caller ops → IsOurs given events so_far still agent t caller ops
-ours_front given events later so_far rest still agent t caller ops whole ours = record {
-  asks = ours.asks;
-  served = λ before after event split. ours.served before (after ++ rest) event (whole ∙ ap (λ xs. xs ++ rest) split ∙ append_assoc before (event ∷ after) rest);
-}
+ours_front given events later so_far rest still agent t caller ops whole ours = search (append_assoc, arith)
 
 -- a front of it is so too
 pub fair_front : (given : Opening) (events so_far rest : List Event) → Fair given events (so_far ++ rest) → Fair given events so_far
-fair_front given events so_far rest fair = record {
-  can = can_front given (events ++ so_far) rest (subst (CanBe given) (sym (append_assoc events so_far rest)) fair.can);
-  up = fair.up;
-  unswept = fair.unswept;
-  even = λ before after event split. fair.even before (after ++ rest) event (ap (λ xs. xs ++ rest) split ∙ append_assoc before (event ∷ after) rest);
-}
+fair_front given events so_far rest fair = search (can_front, append_assoc, arith)
 
 pub calm_front : (given : Opening) (events so_far rest : List Event) (still : ℕ → Type 0) → Calm given events (so_far ++ rest) still → Calm given events so_far still
 calm_front given events so_far rest still calm = record {
@@ -107,17 +99,9 @@ module _ (given : Opening) (events later : List Event) (fair : Fair given events
 
   -- what a front decides stands among the decisions
   pub decided_on : (so_far rest : List Event) → later ≡ so_far ++ rest → (d : Decided) → Has (decisions given (events ++ so_far)) d → Has (decisions given (events ++ later)) d
-  decided_on so_far rest split d has =
-      subst (λ all. Has (decisions given all) d) (append_assoc events so_far rest ∙ ap (λ later. events ++ later) (sym split))
-      (subst (λ list. Has list d) (sym (decisions_from-append (fixed_of given) (opening given) (events ++ so_far) rest))
-      (append_has_left (decisions given (events ++ so_far)) (decisions_from (fixed_of given) (run given (events ++ so_far)) rest) d has))
+  decided_on so_far rest split d has = search (append_assoc, decisions_from-append, append_has_left, arith)
 
   module _ (so_far rest : List Event) (event : Event) (split : later ≡ so_far ++ event ∷ rest) (d : Decided) (is : decided (fixed_of given) (run given (events ++ so_far)) event ≡ Some d) where
     -- it stands among the decisions
     pub decided_has : Has (decisions given (events ++ later)) d
-    decided_has =
-        let all = events ++ so_far in
-        subst (λ all. Has (decisions given all) d) (append_assoc events so_far (event ∷ rest) ∙ ap (λ later. events ++ later) (sym split))
-        (subst (λ list. Has list d) (sym (decisions_from-append (fixed_of given) (opening given) all (event ∷ rest)))
-        (append_has_right (decisions given all) (decisions_from (fixed_of given) (run given all) (event ∷ rest)) d
-        (subst (λ found. Has (cons_option found (decisions_from (fixed_of given) (step (fixed_of given) (run given all) event).world rest)) d) (sym is) (inl refl))))
+    decided_has = search (append_assoc, decisions_from-append, append_has_right, arith)

@@ -1,8 +1,7 @@
 -- A run is calm, whatever the suite, where each transaction that begins is never decided, or asks for nothing exclusively: so nobody who is decided has an exclusive lock.
-use Rattle.law_run_recovers.proofs.Vocabulary.{all_idle, no_locks, Contains, List, Option, Some, Result, Ok, Err, [], ap, append-nil, append_assoc, option_map, filter, map, inl, inr, refl, subst, sym, true, ℕ, ⊎_elim, ◌++◌, ◌∙◌, ◌∷◌, ◌≡◌}
-use Rattle.law_run_recovers.proofs.Vocabulary.{◌⊎◌, PlainTable, Row, row_of, service_stays, IsNotDecided, Has, contains_from, has_from, State, Lock, decisions, run, table_of, server_at, Event, Begin, Opening, LockMode, Exclusive}
-use Rattle.law_run_recovers.proofs.Vocabulary.{Transaction, Begun, its_asks, votes_set, its_votes, asks_for, not_asked, needs, ending, Edits, Ended, Course, Look, Read, Set, Hold, unless_set, is_set, looked, content_read, transaction}
-use Rattle.law_run_recovers.proofs.Vocabulary.{Answer, Refusal, Change, change_in, changes_on, changes_at, with_change, seen, head, makes, sets_acl, sets_votes, some, content_in, IsServed}
+use Rattle.law_run_recovers.proofs.Vocabulary.{all_idle, no_locks, Contains, List, Option, Some, Result, [], ap, append-nil, append_assoc, refl, subst, sym, true, ℕ, ⊎_elim, ◌++◌, ◌∙◌, ◌∷◌, ◌≡◌, arith, ◌⊎◌, PlainTable, Row, row_of, service_stays}
+use Rattle.law_run_recovers.proofs.Vocabulary.{IsNotDecided, Has, contains_from, has_from, State, Lock, decisions, run, table_of, server_at, Event, Begin, Opening, LockMode, Exclusive, Transaction, Begun, its_asks, votes_set, its_votes, asks_for}
+use Rattle.law_run_recovers.proofs.Vocabulary.{needs, ending, Edits, Ended, Course, Look, Read, Set, Hold, unless_set, is_set, looked, content_read, Answer, Refusal, changes_on, seen, head, content_in, IsServed}
 use Rattle.file_ops.specs.Rows as rows
 use Rattle.law_run_recovers.proofs.AmongCourse.{nil_cons, parted}
 use Rattle.law_run_recovers.proofs.MeetAsked.{all_asked}
@@ -37,10 +36,6 @@ module _ (these others : ℕ → Option Row) (same : (z : ℕ) → these z ≡ o
   ends_alike edits (Set suite edit later) = ends_alike ((suite, edit) ∷ edits) later
   ends_alike edits other = refl
 
-changes_alike : (f g : ℕ → Option Change) → ((z : ℕ) → f z ≡ g z) → (edits : Edits) → changes_at f edits ≡ changes_at g edits
-changes_alike f g same [] = refl
-changes_alike f g same (e ∷ edits) = ap (λ change. with_change e.0 change (changes_at f edits)) (same e.0) ∙ ap (with_change e.0 (g e.0)) (changes_alike f g same edits)
-
 module _ (given : Opening) (events later : List Event) (calm : Calm given events later AnySuite) (who : Begun given events later) where
   abbrev now : PlainTable
   now = table_of given (events ++ who.before)
@@ -56,24 +51,13 @@ module _ (given : Opening) (events later : List Event) (calm : Calm given events
 
   -- what it asks for it asks for on the first table, and so it is of votes that it sets
   pub asks_same : its_asks given events later who ≡ asks_for given events who.t who.caller who.ops
-  asks_same =
-      ap (not_asked []) (needs_alike (row_of now.rows) (row_of first.rows) same_row [] (transaction now.service who.t who.caller who.ops))
-      ∙ ap (λ service. not_asked [] (needs (row_of first.rows) [] (transaction service who.t who.caller who.ops))) same_service
+  asks_same = search (needs_alike, same_row, same_service, arith)
 
   set_same : (result : Result (Ended (List Answer)) Refusal) → changes_on now.rows result ≡ changes_on first.rows result
-  set_same (Ok ended) =
-      changes_alike (change_in now.rows ended.edits) (change_in first.rows ended.edits) (λ z. ap (λ row. changed_in ended.edits z row) (same_row z)) ended.edits
-    where
-      changed_in : Edits → ℕ → Option Row → Option Change
-      changed_in edits z row = option_map (λ (row : Row). record { made = some makes edits z; acl = some sets_acl edits z; votes = some sets_votes edits z; content = is_set edits z; row = row }) (seen edits z row)
-  set_same (Err refusal) = refl
+  set_same result = search arith
 
   pub votes_same : its_votes given events later who ≡ votes_set (table_of given events) who.t who.caller who.ops
-  votes_same =
-      ap (λ changes. map as_set (filter sets changes))
-      (ap (changes_on now.rows) (ends_alike (row_of now.rows) (row_of first.rows) same_row [] (transaction now.service who.t who.caller who.ops))
-      ∙ set_same (ending (row_of first.rows) [] (transaction now.service who.t who.caller who.ops)))
-      ∙ ap (λ service. votes_set (record first { service = service }) who.t who.caller who.ops) same_service
+  votes_same = search (as_set, sets, ends_alike, same_row, set_same, same_service, arith)
 
 -- ---- all along
 
@@ -129,11 +113,7 @@ module _ (given : Opening) (events later : List Event) (fair : Fair given events
     }
 
   clear_on : (so_far rest : List Event) (event : Event) → later ≡ so_far ++ event ∷ rest → WasClear so_far → WasClear (so_far ++ event ∷ [])
-  clear_on so_far rest event split clear front back other is = of (parted so_far event front other back is)
-    where
-      of : ((front ≡ so_far) × (other ≡ event) × (back ≡ [])) ⊎ ((rest : List Event) × (so_far ≡ front ++ other ∷ rest) × (back ≡ rest ++ event ∷ [])) → IsClear front
-      of (inl here) = subst IsClear (sym here.0) (clear_now so_far (event ∷ rest) split clear)
-      of (inr before) = clear front before.0 other before.1
+  clear_on so_far rest event split clear front back other is = search (parted, clear_now, arith)
 
   clear_at : (so_far rest : List Event) → later ≡ so_far ++ rest → WasClear so_far
   clear_at = along later WasClear clear_on (λ front back event is. absurd (nil_cons front event back is))

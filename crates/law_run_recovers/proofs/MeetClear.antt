@@ -1,11 +1,11 @@
 -- A run is calm at suites at which each exclusive lock that there ever is belongs to one that is never decided: who writes a suite has it locked exclusively as it is decided.
-use Rattle.law_run_recovers.proofs.Vocabulary.{home_in, ◌≡◌, ◌⊎◌, inl, inr, ℕ, ◌<◌, ◌≤◌, true, List, [], ◌∷◌, ◌++◌, append-nil, append_assoc, Option, Some, None, Ok, Err, refl, sym, ap, subst, ◌∙◌, arith, ◌==◌, unwrap_or, nat_cmp}
-use Rattle.law_run_recovers.proofs.Vocabulary.{and_parts, eqb-true, false≢true, leb-true, none-some, same_Some, find_some, votes_in, IsValid, Opening, Prefix, LockMode, Exclusive, Shared, is_exclusive, get, Intention, Lock, Verdict, State}
-use Rattle.law_run_recovers.proofs.Vocabulary.{copy_of, is_own, is_answered, HasPreparedLock, served, Has, contains_from, has_from, fixed_of, Proposal, GatheredSuite, ReadPoint, suite_of, Event, Step, Served, World, server_at, step}
-use Rattle.law_run_recovers.proofs.Vocabulary.{opening, run, after, Decided, decided, decisions, finish_is_after, EndedSo, IsNotDecided, answers_follow_knowledge, IsAnsweredAsKnown, row, prefix_at, beginning, servers_of, machine_of}
-use Rattle.law_run_recovers.proofs.Vocabulary.{to_write, known_by, LogIs, decision_at, event_log, machine_one, all_shown, row_shown, Together, holds_after, all_keep, undecided, Replica, Shows, effect, plan_of, is_up, up_in, shown_at}
-use Rattle.law_run_recovers.proofs.Vocabulary.{shown_in, CanBe, can_front, all_consistent, AllAt, Fixed, at_puts, puts_in, slice_get, slice_set, Begun, locks_at, locks_in, ⊎_elim, lock_at, hold_of, decides_first, decides_on, decision_by}
-use Rattle.law_run_recovers.proofs.Vocabulary.{decision_in, decision_with, AreOwed, Owed, Owes, OwesFirst, OwesWritten, decision_of_actor, agents_owe, AllOthers}
+use Rattle.law_run_recovers.proofs.Vocabulary.{home_in, ◌≡◌, ◌⊎◌, inl, inr, ℕ, ◌<◌, ◌≤◌, true, List, [], ◌∷◌, ◌++◌, append-nil, append_assoc, Option, Some, None, Ok, Err, refl, sym, ap, subst, ◌∙◌, arith, ◌==◌, unwrap_or, nat_cmp, and_parts}
+use Rattle.law_run_recovers.proofs.Vocabulary.{eqb-true, false≢true, leb-true, none-some, same_Some, find_some, votes_in, IsValid, Opening, Prefix, LockMode, Exclusive, is_exclusive, get, Intention, Lock, Verdict, State, copy_of, is_own, is_answered}
+use Rattle.law_run_recovers.proofs.Vocabulary.{HasPreparedLock, served, Has, contains_from, has_from, fixed_of, Proposal, GatheredSuite, ReadPoint, suite_of, Event, Step, Served, World, server_at, step, opening, run, after, Decided, decided}
+use Rattle.law_run_recovers.proofs.Vocabulary.{decisions, finish_is_after, EndedSo, IsNotDecided, answers_follow_knowledge, IsAnsweredAsKnown, row, prefix_at, beginning, servers_of, machine_of, to_write, known_by, LogIs, decision_at, event_log}
+use Rattle.law_run_recovers.proofs.Vocabulary.{machine_one, all_shown, row_shown, Together, holds_after, all_keep, undecided, Replica, Shows, effect, plan_of, is_up, up_in, shown_at, shown_in, CanBe, can_front, all_consistent, AllAt, Fixed, at_puts}
+use Rattle.law_run_recovers.proofs.Vocabulary.{puts_in, slice_get, slice_set, Begun, locks_at, locks_in, ⊎_elim, lock_at, hold_of, decides_first, decides_on, decision_by, decision_in, decision_with, AreOwed, Owed, Owes, OwesFirst, OwesWritten}
+use Rattle.law_run_recovers.proofs.Vocabulary.{decision_of_actor, agents_owe, AllOthers}
 use Rattle.law_suite_machine.proofs.Knowing.{still_locked}
 use Rattle.law_headline.proofs.Beside.{is_ready_now}
 use Rattle.law_headline.proofs.Unbroken.{AllAsTold, AsTold, as_told}
@@ -54,12 +54,10 @@ pub record LockedBy (world : World) (t z : ℕ) : Type 0 where
   pub exclusive : lock.mode ≡ Exclusive
 
 exclusive_is : (mode : LockMode) → is_exclusive mode ≡ true → mode ≡ Exclusive
-exclusive_is Exclusive is = refl
-exclusive_is Shared is = absurd (false≢true is)
+exclusive_is mode h1 = search arith
 
 told_exclusive : (found : Option machine.Told) → conditions.is_exclusive found ≡ true → (told : machine.Told) × (found ≡ Some told)
-told_exclusive None is = absurd (false≢true is)
-told_exclusive (Some told) is = (told, refl)
+told_exclusive found h1 = search arith
 
 as_told_one : (told : Option machine.Told) (hold : machine.Hold) → AsTold told (Some hold) → conditions.is_exclusive told ≡ true → hold.exclusive ≡ true
 as_told_one told hold as' is = as' is
@@ -193,11 +191,7 @@ module _ (given : Opening) (events later : List Event) (fair : Fair given events
       stored : AllAt Stored (run given (events ++ so_far))
 
     still_first : IsStill []
-    still_first = record {
-      row_is = ap (λ all. row (beginning z given) (machine_of given z all).log) (append-nil events);
-      prefixes = λ p. ap (λ all. prefix_at (beginning z given) (machine_of given z all).log p) (append-nil events);
-      stored = λ s st at old was. ap (λ (st : State). copy_of st.store z) (same_Some st old (sym at ∙ ap (λ all. server_at (run given all) s) (append-nil events) ∙ was));
-    }
+    still_first = search (append-nil, same_Some, arith)
 
     module _ (so_far rest : List Event) (event : Event) (split : later ≡ so_far ++ event ∷ rest) (here : IsStill so_far) where
       abbrev base : List Event

@@ -1,19 +1,14 @@
 -- Two that meet are not both short: who is refused by the one has given its votes to the other, and where the votes are tight these are enough. Nor is one short of votes
 -- that were set anew since: whoever shows newer ones the other has, and so that one has found these.
-use Rattle.law_run_recovers.proofs.Vocabulary.{◌≡◌, ◌⊎◌, inl, inr, ℕ, ◌<◌, ◌≤◌, Bool, true, false, cond, List, [], ◌∷◌, refl, sym, ap, subst, ◌∙◌, arith, IsTrue, ◌+◌, ◌&&◌, ◌||◌, not, Contains, false≢true, eq-eqb, Representative}
-use Rattle.law_run_recovers.proofs.Vocabulary.{Configuration, votes_in, votes_at, total_votes, shared_member, LockMode, Shared, Exclusive, is_exclusive, serves, needed_of, clashes, AreTight, not-true, serves_itself}
+use Rattle.law_run_recovers.proofs.Vocabulary.{◌≡◌, ◌⊎◌, inl, inr, ℕ, ◌<◌, ◌≤◌, Bool, true, false, List, [], ◌∷◌, refl, sym, ap, subst, ◌∙◌, arith, IsTrue, ◌+◌, ◌&&◌, ◌||◌, not, Contains, eq-eqb, Representative, Configuration, votes_in, votes_at}
+use Rattle.law_run_recovers.proofs.Vocabulary.{total_votes, shared_member, LockMode, is_exclusive, serves, needed_of, clashes, AreTight, not-true, serves_itself}
 
 -- ---- votes
 
 -- those in a set and those out of it are all
 pub votes_split : (reps : List Representative) (set : ℕ → Bool) → votes_in reps set + votes_in reps (λ s. not (set s)) ≡ total_votes reps
 votes_split [] set = refl
-votes_split (rep ∷ reps) set =
-    let rest = votes_split reps set in
-    elim (set rep.0) as (λ b. (cond b rep.1 0 + votes_in reps set) + (cond (not b) rep.1 0 + votes_in reps (λ s. not (set s))) ≡ rep.1 + total_votes reps) [
-      | true ↦ omega (arith, rest)
-      | false ↦ omega (arith, rest)
-    ]
+votes_split (rep ∷ reps) set = search (votes_split reps set, arith)
 
 -- ---- modes
 
@@ -21,11 +16,7 @@ clash_same : (y : ℕ) (m k : LockMode) → clashes (y, m) (y, k) ≡ (is_exclus
 clash_same y m k = ap (λ b. b && (is_exclusive m || is_exclusive k)) (eq-eqb y y refl)
 
 or_wider : (m more k other : LockMode) → serves more m ≡ true → serves other k ≡ true → (is_exclusive m || is_exclusive k) ≡ true → (is_exclusive more || is_exclusive other) ≡ true
-or_wider m Exclusive k other wide wider is = refl
-or_wider m Shared k Exclusive wide wider is = refl
-or_wider Shared Shared Shared Shared wide wider is = is
-or_wider Exclusive Shared k Shared wide wider is = absurd (false≢true wide)
-or_wider Shared Shared Exclusive Shared wide wider is = absurd (false≢true wider)
+or_wider m more k other h4 h5 h6 = search arith
 
 -- what is wanted more clashes as well
 pub clash_wider : (y : ℕ) (m more k other : LockMode) → serves more m ≡ true → serves other k ≡ true → clashes (y, m) (y, k) ≡ true → clashes (y, more) (y, other) ≡ true
@@ -54,10 +45,7 @@ Falls rows held shown others y votes open' = (votes ≡ rows y) ⊎ (IsBehind he
 -- so it is by whoever it was granted the suite by, of those that granted it
 pub falls_by : (rows : ℕ → Configuration) (had held : ℕ → LockMode → ℕ → Bool) (shown : ℕ → ℕ → ℕ) (others : List (ℕ × LockMode)) (y : ℕ) (votes : Configuration) (open' : ℕ → Bool)
     → ((mode : LockMode) (server : ℕ) → held y mode server ≡ true → had y mode server ≡ true) → Falls rows had shown others y votes open' → Falls rows held shown others y votes open'
-falls_by rows had held shown others y votes open' more (inl row) = inl row
-falls_by rows had held shown others y votes open' more (inr (inl b)) =
-    inr (inl (record { prefix = b.prefix; server = b.server; has_vote = b.has_vote; shut = b.shut; newer = b.newer; below = λ mode other is. b.below mode other (more mode other is) }))
-falls_by rows had held shown others y votes open' more (inr (inr none)) = inr (inr none)
+falls_by rows had held shown others y votes open' h8 h9 = search arith
 
 module _ (mine theirs : List (ℕ × LockMode)) (rows : ℕ → Configuration) (shown : ℕ → ℕ → ℕ) (last : ℕ → ℕ) (z : ℕ) (m k : LockMode) (tight : AreTight (rows z) z mine theirs) (has : Contains mine (z, m)) (there : Contains theirs (z, k))
     (clash : clashes (z, m) (z, k) ≡ true) (held other_held : ℕ → LockMode → ℕ → Bool) where
@@ -99,8 +87,7 @@ module _ (mine theirs : List (ℕ × LockMode)) (rows : ℕ → Configuration) (
     closed server = not (open' server)
 
     open_not : (b : Bool) → IsTrue (not b) → b ≡ false
-    open_not false is = refl
-    open_not true is = absurd cc
+    open_not b h1 = search arith
 
     closed_votes : votes_in votes.reps open' + votes_in votes.reps (λ s. not (open' s)) ≡ total_votes votes.reps
     closed_votes = votes_split votes.reps open'
@@ -119,8 +106,7 @@ module _ (mine theirs : List (ℕ × LockMode)) (rows : ℕ → Configuration) (
         apart z s.server m k s.in_first s.in_second clash
 
     second : {A B : Type 0} → A ⊎ B → (A → ⊥) → B
-    second (inl a) none = absurd (none a)
-    second (inr b) none = b
+    second h0 h1 = search arith
 
     shows_newer : (n s : ℕ) → n < s → 0 < s
     shows_newer n s less = omega (arith, less)
@@ -260,14 +246,7 @@ module _ (mine theirs : List (ℕ × LockMode)) (rows : ℕ → Configuration) (
 
       -- each found older votes than the other
       both_behind : IsBehind held shown y votes open' → IsBehind other_held shown y' votes' other_open → ⊥
-      both_behind b b' =
-          let o = other_has b.server b.has_vote b.shut in
-          let h = one_has b'.server b'.has_vote b'.shut in
-          let one_below = subst (λ y. shown y b.server ≤ b'.prefix) at' (b'.below o.0 b.server (subst (λ y. other_held y o.0 b.server ≡ true) (sym at') o.1)) in
-          let other_below = subst (λ y. shown y b'.server ≤ b.prefix) at (b.below m b'.server (subst (λ y. held y m b'.server ≡ true) (sym at) h)) in
-          let newer = subst (λ y. b.prefix < shown y b.server) at b.newer in
-          let newer' = subst (λ y. b'.prefix < shown y b'.server) at' b'.newer in
-          omega (arith, one_below, other_below, newer, newer')
+      both_behind b b' = search (other_has, one_has, at', arith)
 
       pub not_both_short : ⊥
       not_both_short = of falls falls'

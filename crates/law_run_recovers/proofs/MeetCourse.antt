@@ -1,13 +1,12 @@
 -- How a transaction stands in whose run nothing is decided, at each moment at which it is at work: servers are open to it that a sight says, as long as this fits what
 -- it is told; and where its end is fixed some want of it is not met by these.
-use Rattle.law_run_recovers.proofs.Vocabulary.{◌≡◌, ◌≢◌, ◌⊎◌, inl, inr, ⊎_elim, ℕ, Bool, true, false, cond, List, [], ◌∷◌, ◌++◌, append-nil, append_assoc, Option, Some, None, is_some, refl, sym, ap, subst, ◌∙◌, ◌*◌, ◌+◌, nat_cmp, eq-eqb}
-use Rattle.law_run_recovers.proofs.Vocabulary.{none-some, same_Some, IsOrdered, Identity, IsValid, Opening, Prefix, LockMode, Shared, Exclusive, Op, row_of, IsSoAt, Lock, Request, Reply, is_prepared, in_the_way, copy_of, State, record_of}
-use Rattle.law_run_recovers.proofs.Vocabulary.{reply_of, reply_up, reply_down, poll_reply, locking_reply, stands_prepared, can_prepare, recorded, verdict_of, Asked, Poll, Upgrade, request_for, mode_asked, Cache, forgotten, Ending}
-use Rattle.law_run_recovers.proofs.Vocabulary.{Undecided, Cause, Transaction, Replied, Suites, suite_of, known_of, parts_at, Task, Phase, Gathering, Fetching, Preparing, Deciding, Finishing, TransactionRun, Running, After, GoesOn, Ends}
-use Rattle.law_run_recovers.proofs.Vocabulary.{home_of, execute, given_in, changes_of, decision_of, request_in, after_reply, Agent, Taken, fixed_of, is_idle, next_in, next_of, left, with_step, take_in, take, begins, begin, started}
-use Rattle.law_run_recovers.proofs.Vocabulary.{exchanges, is_decide, said_by, asks_same, Keeps, nothing_held, plus_all, begin_keeps, after-append, Served, Event, Begin, Step, Actor, World, server_at, actor_at, step, run, decisions}
-use Rattle.law_run_recovers.proofs.Vocabulary.{table_of, holds_of, service_stays, agent_of, WasPrefix, beginning, machine_of, CanBe, all_keep, IsMine, can_front, Finds, Stands, has_any, ◌==◌, is_resolve, never_resolves, is_up, locks_asked}
-use Rattle.law_run_recovers.proofs.Vocabulary.{asks_for, first_mode, runs, world_after, or_right, given as gives, Answered as AnsweredVerdict}
+use Rattle.law_run_recovers.proofs.Vocabulary.{◌≡◌, ◌≢◌, ◌⊎◌, inl, inr, ⊎_elim, ℕ, Bool, true, false, cond, List, [], ◌∷◌, ◌++◌, append-nil, append_assoc, Option, Some, None, is_some, refl, sym, ap, subst, ◌∙◌, ◌*◌, ◌+◌, nat_cmp, eq-eqb, arith}
+use Rattle.law_run_recovers.proofs.Vocabulary.{none-some, same_Some, IsOrdered, Identity, IsValid, Opening, Prefix, LockMode, Shared, Exclusive, Op, row_of, IsSoAt, Lock, Request, Reply, in_the_way, copy_of, State, record_of, reply_of, reply_up}
+use Rattle.law_run_recovers.proofs.Vocabulary.{reply_down, locking_reply, recorded, verdict_of, Asked, request_for, mode_asked, Cache, forgotten, Ending, Undecided, Cause, Transaction, Replied, Suites, suite_of, known_of, Task, Phase, Gathering}
+use Rattle.law_run_recovers.proofs.Vocabulary.{Fetching, Preparing, Deciding, Finishing, TransactionRun, Running, After, GoesOn, Ends, home_of, execute, given_in, decision_of, request_in, after_reply, Agent, Taken, fixed_of, is_idle, next_in}
+use Rattle.law_run_recovers.proofs.Vocabulary.{next_of, left, with_step, take_in, take, begins, begin, started, exchanges, is_decide, said_by, asks_same, Keeps, nothing_held, plus_all, begin_keeps, after-append, Served, Event, Begin, Step, Actor}
+use Rattle.law_run_recovers.proofs.Vocabulary.{World, server_at, actor_at, step, run, decisions, table_of, holds_of, service_stays, agent_of, WasPrefix, beginning, machine_of, CanBe, all_keep, IsMine, can_front, Finds, Stands, has_any, ◌==◌}
+use Rattle.law_run_recovers.proofs.Vocabulary.{is_resolve, never_resolves, is_up, locks_asked, asks_for, first_mode, runs, world_after, or_right, given as gives, Answered as AnsweredVerdict}
 use Rattle.txn_core.specs.Transactions.{Step as CourseStep}
 use Rattle.file_ops.specs.Rows as rows
 use Rattle.file_exec.specs.Known as known
@@ -28,7 +27,7 @@ use Rattle.law_run_recovers.proofs.Early.{early_asks, fetch_is}
 use Rattle.law_run_recovers.proofs.Executes.{begin_stands}
 use Rattle.law_run_recovers.proofs.Found.{Answering}
 use Rattle.law_run_recovers.proofs.Heard.{LockRight, RightFor, reply_stands}
-use Rattle.law_run_recovers.proofs.Keeps.{IsAtWork, works, at_work, at_work_before, run_at}
+use Rattle.law_run_recovers.proofs.Keeps.{IsAtWork, at_work, at_work_before, run_at}
 use Rattle.law_run_recovers.proofs.KnownIsTheTables.{unanswered, knows_table, unrecorded_on}
 use Rattle.law_run_recovers.proofs.Led.{rules_of}
 use Rattle.law_run_recovers.proofs.Open.{its_begin, number_is, begun_there}
@@ -71,9 +70,7 @@ module _ (given : Opening) (base events later : List Event) (agent t : ℕ) (cal
     Known z prefix = WasPrefix (beginning z given) (machine_of given z base).log prefix
 
     pub answering : (z : ℕ) → asks_of (asks_for given base t caller ops) z ≡ true → Answering (fixed_of given) (run given base) z (machine_of given z base) (finds_at sight z)
-    answering z has =
-        let all = goes.answers z has in
-        record { up = λ i is. opens_up z (sight.first z) i is; stored = λ i is. all.stored i (opens_up z (sight.first z) i is) }
+    answering z has = search arith
 
     -- by its number
     asked_so : (z : ℕ) → asks_of (locks_on (table_of given base) its) z ≡ true → asks_of (asks_for given base t caller ops) z ≡ true
@@ -128,9 +125,7 @@ module _ (given : Opening) (base events later : List Event) (agent t : ℕ) (cal
 
     closed_rests : (so_far : List Event) (here : Actor) → actor_at (world_after given events agent caller site ops so_far) agent ≡ Some here → (IsOpen here.agent.doing → ⊥)
         → IsAtWork (world_after given events agent caller site ops so_far) agent t → ⊥
-    closed_rests so_far here there closed work =
-        let now = works (world_at so_far) agent t work in
-        closed (subst (λ (a : Actor). IsOpen a.agent.doing) (same_Some now.actor here (sym now.there ∙ there)) now.is_open)
+    closed_rests so_far here there closed work = search arith
 
     -- what a step leaves, of which nothing is decided
     by_after : (so_far rest : List Event) → later ≡ so_far ++ rest → HeardNext given base events later agent t caller site ops actor goes so_far → (here : Actor) (now : Cache) (after : After TransactionRun)
@@ -150,8 +145,7 @@ module _ (given : Opening) (base events later : List Event) (agent t : ℕ) (cal
     by_after so_far rest split next here now (GoesOn more) there does cache stands leaves = of more.phase refl
       where
         open_now : IsOpenPhase more.phase → State' so_far
-        open_now open' =
-            inl (record { here = here; there = there; txn_run = more; running = does; task_is = stands.0; is_open = open'; stands = subst (λ now. PhaseIn more.suites now more.phase) (sym cache) stands.1 })
+        open_now open' = search arith
 
         of : (phase : Phase) → more.phase ≡ phase → State' so_far
         of (Finishing servers v ended) is =
@@ -189,10 +183,7 @@ module _ (given : Opening) (base events later : List Event) (agent t : ℕ) (cal
     -- ---- an event that is not its own
 
     forgets : (site' : ℕ) (now : Cache) (suites : Suites) (phase : Phase) → IsOpenPhase phase → PhaseIn suites now phase → PhaseIn suites (forgotten site' now) phase
-    forgets site' now suites (Gathering z) open' at = (at.0, λ z none prefix hinted. at.1 z none prefix (hint_forgotten site' site z now prefix hinted))
-    forgets site' now suites (Fetching z) open' at = (at.0, λ z none prefix hinted. at.1 z none prefix (hint_forgotten site' site z now prefix hinted))
-    forgets site' now suites (Finishing left v ended) open' at = absurd open'
-    forgets site' now suites other open' at = at
+    forgets site' now suites phase h4 h5 = grind (hint_forgotten, arith)
 
     aside : (so_far rest : List Event) (event : Event) (split : later ≡ so_far ++ event ∷ rest) (c : Course so_far) (busy : _)
         → Apart given agent (world_after given events agent caller site ops so_far) c.here c.there busy (step (fixed_of given) (world_after given events agent caller site ops so_far) event) → Course (so_far ++ event ∷ [])
@@ -237,8 +228,7 @@ module _ (given : Opening) (base events later : List Event) (agent t : ℕ) (cal
       request_is = subst (λ task. request_in (fixed_of given) task c.txn_run.suites c.txn_run.phase ≡ Some (took.asked.0, took.asked.1)) c.task_is (sym (ap (next_in (fixed_of given)) c.running) ∙ took.next)
 
       its_finds : Finds took.st took.asked.1
-      its_finds =
-          finds_then given events later agent t caller site ops actor goes.can goes.there goes.begins goes.spared so_far (Step agent ∷ rest) split work c.here c.txn_run c.there c.running number_here took.asked took.next took.st took.at
+      its_finds = search (finds_then, work, number_here, arith)
 
       replies_up : said ≡ reply_up took.st took.asked.1
       replies_up = ap (λ b. cond b (reply_up took.st took.asked.1) (reply_down took.asked.1)) up.0
@@ -246,10 +236,7 @@ module _ (given : Opening) (base events later : List Event) (agent t : ℕ) (cal
       -- ---- it is answered rightly
 
       says : (z : ℕ) (question : Asked) → took.asked.1 ≡ request_for t z question → said ≡ locking_reply (in_the_way t z (mode_asked question) took.st.locks) (copy_of took.st.store z)
-      says z (Poll mode) is = replies_up ∙ ap (reply_up took.st) is
-      says z Upgrade is =
-          replies_up ∙ ap (reply_up took.st) is
-          ∙ ap (λ b. cond b (poll_reply took.st t z Exclusive) reply.Lost) (subst (Finds took.st) is its_finds)
+      says z question h2 = search (replies_up, its_finds, arith)
 
       lock_right : (z : ℕ) → asks_of (locks_on (table_of given base) its) z ≡ true → (question : Asked) → took.asked.1 ≡ request_for t z question → Answers (fixed_of given) (run given base) sight z question took.asked.0 said
       lock_right z has question is = subst (Answers (fixed_of given) (run given base) sight z question took.asked.0) (sym (says z question is)) (of (in_the_way t z (mode_asked question) took.st.locks) refl)
@@ -279,12 +266,7 @@ module _ (given : Opening) (base events later : List Event) (agent t : ℕ) (cal
           (has_any (λ (one : ℕ × LockMode). one.0 == z) (onto at.sets.so_far []) (z, Exclusive)
           (onto_so_far at.sets.so_far [] (z, Exclusive) (asked_exclusive at.sets.so_far z (at.sets.exclusive (z, at.votes) (inl refl)))) (eq-eqb z z refl)))
       right_for now suites (Preparing [] outcome) at open' asks' = absurd (none-some (took.asked.0, took.asked.1) asks')
-      right_for now suites (Preparing (server ∷ left) outcome) at open' asks' =
-          let parts' = parts_at suites (changes_of outcome) server in
-          let is = sym (asks_same server took.asked.0 (request.Prepare its.t parts') took.asked.1 asks') in
-          ap is_prepared
-          (replies_up ∙ ap (reply_up took.st) is
-          ∙ ap (λ b. cond b reply.Prepared reply.Lost) (or_right (stands_prepared took.st its.t parts') (can_prepare took.st its.t parts') (subst (Finds took.st) is its_finds)))
+      right_for now suites (Preparing (server ∷ left) outcome) at open' asks' = search (asks_same, replies_up, or_right, its_finds, arith)
       right_for now suites (Deciding outcome) at open' asks' =
           let decision = decision_of its outcome in
           let is = sym (asks_same (home_of (fixed_of given).service its.t) took.asked.0 (request.Decide its.t decision) took.asked.1 asks') in
@@ -300,9 +282,7 @@ module _ (given : Opening) (base events later : List Event) (agent t : ℕ) (cal
       step_of task = after_reply (fixed_of given) task c.here.agent.cache c.txn_run.suites c.txn_run.phase took.asked.0 took.asked.1 said
 
       taken : take (fixed_of given) c.here.agent (Replied said) ≡ with_step c.here.agent (step_of c.txn_run.task)
-      taken =
-          ap (λ doing. take_in (fixed_of given) c.here.agent (Replied said) doing (next_of (fixed_of given) c.here.agent)) c.running
-          ∙ ap (take_in (fixed_of given) c.here.agent (Replied said) (Some (Running c.txn_run))) took.next
+      taken = search arith
 
       here_is : took.new.agent ≡ (with_step c.here.agent (step_of its)).agent
       here_is = took.took ∙ ap (λ (taken : Taken). taken.agent) taken ∙ ap (λ task. (with_step c.here.agent (step_of task)).agent) c.task_is
@@ -331,9 +311,7 @@ module _ (given : Opening) (base events later : List Event) (agent t : ℕ) (cal
       resolves_none = never_resolves (fixed_of given) its c.txn_run.suites c.txn_run.phase took.asked.0 took.asked.1 request_is
 
       stands_z : (z : ℕ) → Stands (machine_of given z all) t
-      stands_z z =
-          stands_next given events later agent t caller site ops actor goes.can goes.there goes.begins goes.spared so_far rest (Step agent) split work z
-          (locks_stand given events later agent t caller site ops actor goes.can goes.there goes.begins goes.spared so_far (Step agent ∷ rest) split work z)
+      stands_z z = search (stands_next, work, locks_stand, arith)
 
       module _ (undecided : is_decide took.asked.1 ≡ false) where
         unrecorded : (i : ℕ) (st : State) → server_at (run given all) i ≡ Some st → record_of st t ≡ None
@@ -390,8 +368,7 @@ module _ (given : Opening) (base events later : List Event) (agent t : ℕ) (cal
           (words.leaves_response (fixed_of given) its c.here.agent.cache c.txn_run.suites c.txn_run.phase took.asked.0 took.asked.1 (Replied said) verdict.Aborted request_is (tells_open c.txn_run.phase c.is_open)))
         where
           tells_open : (phase : Phase) → IsOpenPhase phase → words.Tells verdict.Aborted phase
-          tells_open (Finishing servers v ended) open' = absurd open'
-          tells_open other open' = refl
+          tells_open phase h1 = search arith
 
     -- ---- all along, where it never asks to be decided
 

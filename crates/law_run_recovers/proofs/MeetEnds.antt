@@ -1,7 +1,7 @@
 -- One that ended undecided stands nowhere among the decisions; and the moment at which the end of one is fixed.
-use Rattle.law_run_recovers.proofs.Vocabulary.{Bool, List, [], ap, append-nil, append_assoc, false, inl, inr, refl, subst, sym, true, ℕ, ⊎_elim, ◌++◌, ◌∙◌, ◌∷◌, ◌≡◌, ◌⊎◌, false≢true, is_decided, EndStands, holds_of, NotIn, append_has_right}
-use Rattle.law_run_recovers.proofs.Vocabulary.{IsNotDecided, ended, number_of, Has, has_from, finished, dones-append, outcomes-append, Decided, decisions, done_in, dones, outcomes, run, World, opening, step, EndedJob, Event, Begin, Opening}
-use Rattle.law_run_recovers.proofs.Vocabulary.{fixed_of, left, Ending, Swept, Undecided, Transaction, Begun, EndsThen, stands, begun_world, is_running, is_telling, world_after}
+use Rattle.law_run_recovers.proofs.Vocabulary.{List, [], ap, append-nil, append_assoc, false, inl, inr, refl, subst, sym, ℕ, ⊎_elim, ◌++◌, ◌∙◌, ◌∷◌, ◌≡◌, ◌⊎◌, is_decided, EndStands, holds_of, NotIn, append_has_right, arith, IsNotDecided, ended}
+use Rattle.law_run_recovers.proofs.Vocabulary.{number_of, Has, has_from, dones-append, outcomes-append, Decided, decisions, dones, outcomes, run, World, EndedJob, Event, Begin, Opening, Ending, Transaction, Begun, EndsThen, stands, is_running}
+use Rattle.law_run_recovers.proofs.Vocabulary.{world_after}
 use Rattle.law_run_recovers.proofs.AmongCourse.{head_or, tail_or, parted}
 use Rattle.law_run_recovers.proofs.AmongOver.{has_after}
 use Rattle.law_run_recovers.proofs.Keeps.{IsAtWork}
@@ -15,12 +15,7 @@ use Rattle.law_run_recovers.proofs.MeetRun.{run_is}
 pub fronts : {X : Type 0} (xs ys us vs : List X) → xs ++ us ≡ ys ++ vs → ((more : List X) × (ys ≡ xs ++ more)) ⊎ ((more : List X) × (xs ≡ ys ++ more))
 fronts [] ys us vs is = inl (ys, refl)
 fronts (x ∷ xs) [] us vs is = inr (x ∷ xs, refl)
-fronts (x ∷ xs) (y ∷ ys) us vs is =
-    let same : x ≡ y = ap (head_or x) is in
-    ⊎_elim
-    (λ one. inl (one.0, ap (λ ys. y ∷ ys) one.1 ∙ ap (λ y. y ∷ (xs ++ one.0)) (sym same)))
-    (λ one. inr (one.0, ap (λ xs. x ∷ xs) one.1 ∙ ap (λ x. x ∷ (ys ++ one.0)) same))
-    (fronts xs ys us vs (ap tail_or is))
+fronts (x ∷ xs) (y ∷ ys) us vs is = search (head_or, tail_or, fronts xs ys us vs, arith)
 
 -- the first front of a list of which something is not so
 pub record Cut (W : List Event → Type 0) (all : List Event) : Type 0 where
@@ -44,26 +39,15 @@ cut W test (e ∷ todo) done works rests =
     (test done)
 
 nothing_before : {W : Type 0} (xs ys : List Event) (e : Event) → [] ≡ xs ++ e ∷ ys → W
-nothing_before [] ys e is = absurd (no_cons is)
-  where
-    no_cons : ◌≡◌ {A = List Event} [] (e ∷ ys) → ⊥
-    no_cons is = cc
-nothing_before (x ∷ xs) ys e is = absurd (no_cons is)
-  where
-    no_cons : ◌≡◌ {A = List Event} [] (x ∷ (xs ++ e ∷ ys)) → ⊥
-    no_cons is = cc
+nothing_before [] ys e is = search arith
+nothing_before (x ∷ xs) ys e is = search arith
 
 pub cut_at : (W : List Event → Type 0) → ((xs : List Event) → W xs ⊎ (W xs → ⊥)) → (all : List Event) → (W all → ⊥) → Cut W all
 cut_at W test all rests = cut W test all [] (λ xs ys e is. nothing_before xs ys e is) rests
 
 -- whether it is at work
 tested : (w : World) (agent t : ℕ) → IsAtWork w agent t ⊎ (IsAtWork w agent t → ⊥)
-tested w agent t = of (is_running w agent t) (is_telling w agent) refl refl
-  where
-    of : (a b : Bool) → is_running w agent t ≡ a → is_telling w agent ≡ b → IsAtWork w agent t ⊎ (IsAtWork w agent t → ⊥)
-    of true false one two = inl (record { running = one; untold = two })
-    of false b one two = inr (λ work. false≢true (sym one ∙ work.running))
-    of true true one two = inr (λ work. false≢true (sym work.untold ∙ two))
+tested w agent t = search arith
 
 -- ---- it has ended
 
@@ -76,19 +60,10 @@ module _ (given : Opening) (events later : List Event) (fair : Fair given events
   whole_is = append_assoc events who.before (its_event ∷ who.after) ∙ ap (λ later. events ++ later) (sym who.parts)
 
   ended_has : Has (ended given (events ++ later)) job
-  ended_has =
-      let base = events ++ who.before in
-      subst (λ all. Has (ended given all) job) whole_is
-      (subst (λ list. Has list job)
-      (sym (ap outcomes (dones-append (fixed_of given) (opening given) base (its_event ∷ who.after)) ∙ outcomes-append (done_in given base) (dones (fixed_of given) (run given base) (its_event ∷ who.after))))
-      (append_has_right (ended given base) (outcomes (dones (fixed_of given) (run given base) (its_event ∷ who.after))) job
-      (has_after (step (fixed_of given) (run given base) its_event).done.outcome (outcomes (dones (fixed_of given) (begun_world given base who.agent who.caller who.site who.ops) who.after)) job
-      (has_from (outcomes (dones (fixed_of given) (begun_world given base who.agent who.caller who.site who.ops) who.after)) job ends.there))))
+  ended_has = search (whole_is, dones-append, outcomes-append, append_has_right, has_after, has_from, arith)
 
   not_in : (ds : List Decided) (t : ℕ) (ending : Ending) → is_decided ending ≡ false → EndStands ds t ending → NotIn ds t
-  not_in ds t (Swept broken finished left) none stands = stands
-  not_in ds t (Undecided cause) none stands = stands
-  not_in ds t other none stands = absurd (false≢true (sym none))
+  not_in ds t ending h3 h4 = search arith
 
   -- undecided: then it is nowhere among the decisions
   pub undecided_not : is_decided job.ending ≡ false → IsNotDecided (decisions given (events ++ later)) who.t

@@ -1,8 +1,8 @@
 -- Whoever granted a transaction a lock in its run stands among those that told it of one, in the suites that it had gathered as its end was fixed.
 use Rattle.law_run_recovers.proofs.Vocabulary.{◌≡◌, ◌⊎◌, inl, inr, ⊎_elim, ℕ, ◌+◌, ◌≤◌, ◌<◌, true, false, List, [], ◌∷◌, ◌++◌, length, Some, is_some, refl, sym, ap, subst, ◌∙◌, arith, ◌==◌, ◌&&◌, false≢true, and_from, eq-eqb, same_Some}
-use Rattle.law_run_recovers.proofs.Vocabulary.{slice_get_within, max_servers, Identity, Opening, Shared, Op, Request, Reply, reply_of, Has, contains_from, filter_has, has_any, has_append, append_has_left, append_has_right, holds}
-use Rattle.law_run_recovers.proofs.Vocabulary.{Transaction, Replied, numbers_from, Suites, TransactionRun, Running, is_finish, Agent, fixed_of, is_idle, next_of, take, begin, after-append, Exchange, exchange_of, exchanges, exchanges-take}
-use Rattle.law_run_recovers.proofs.Vocabulary.{locks, says_held, was_held, Keeps, nothing_held, plus_all, begin_keeps, Served, Event, Begin, Step, Actor, World, server_at, actor_at, step, so_many, stage, was_locked, locked, world_after}
+use Rattle.law_run_recovers.proofs.Vocabulary.{slice_get_within, max_servers, Identity, Opening, Shared, Op, Request, Reply, reply_of, Has, contains_from, filter_has, has_any, has_append, append_has_left, append_has_right, holds, Transaction}
+use Rattle.law_run_recovers.proofs.Vocabulary.{Replied, numbers_from, Suites, TransactionRun, Running, is_finish, Agent, fixed_of, is_idle, next_of, take, begin, after-append, Exchange, exchanges, exchanges-take, locks, says_held, was_held, Keeps}
+use Rattle.law_run_recovers.proofs.Vocabulary.{nothing_held, plus_all, begin_keeps, Served, Event, Begin, Step, Actor, World, server_at, actor_at, step, so_many, stage, was_locked, locked, world_after}
 use Rattle.law_agents.proofs.Orders.{stages_rise, all_finish}
 use Rattle.txn_core.specs.Suites.{told_at}
 use Rattle.rep_core.specs.declared.request.Request.TheVariants as request
@@ -21,20 +21,10 @@ use Rattle.law_run_recovers.proofs.MeetQuiet.{GoesQuietly, Heard, exchange, past
 pub inside : {X : Type 0} (xs us : List X) (u : X) (ys vs : List X) → xs ++ ys ≡ us ++ u ∷ vs → ((more : List X) × (us ≡ xs ++ more)) ⊎ ((more : List X) × (xs ≡ us ++ u ∷ more))
 inside [] us u ys vs is = inl (us, refl)
 inside (x ∷ xs) [] u ys vs is = inr (xs, ap (λ z. z ∷ xs) (ap (head_or x) is))
-inside (x ∷ xs) (v ∷ us) u ys vs is =
-    ⊎_elim
-    (λ one. inl (one.0, ap (λ us. v ∷ us) one.1 ∙ ap (λ v. v ∷ (xs ++ one.0)) (sym (ap (head_or x) is))))
-    (λ one. inr (one.0, ap (λ xs. x ∷ xs) one.1 ∙ ap (λ x. x ∷ (us ++ u ∷ one.0)) (ap (head_or x) is)))
-    (inside xs us u ys vs (ap tail_or is))
+inside (x ∷ xs) (v ∷ us) u ys vs is = search (head_or, tail_or, inside xs us u ys vs, arith)
 
 early_stage : (asked : Request) → stage asked < 4 → is_finish asked ≡ false → stage asked ≤ 2
-early_stage (request.Finish t v) few is = absurd (false≢true (sym is))
-early_stage (request.Resolve t) few is = absurd (omega (arith, few))
-early_stage (request.Break t suite) few is = absurd (omega (arith, few))
-early_stage request.Locks few is = absurd (omega (arith, few))
-early_stage request.Crash few is = absurd (omega (arith, few))
-early_stage request.Return few is = absurd (omega (arith, few))
-early_stage other few is = omega arith
+early_stage asked h1 h2 = search arith
 
 module _ (given : Opening) (base events later : List Event) (agent t : ℕ) (caller : Identity) (site : ℕ) (ops : List Op) (actor : Actor) (goes : GoesQuietly given base events later agent t caller site ops actor) where
   abbrev world_at : List Event → World
@@ -88,9 +78,7 @@ module _ (given : Opening) (base events later : List Event) (agent t : ℕ) (cal
     one = record { server = took.asked.0; request = took.asked.1; response = Replied (reply_of took.st took.asked.1) }
 
     more : past told ≡ past h.told ++ one ∷ []
-    more =
-        exchanges-take (fixed_of given) begun h.told (Replied said)
-        ∙ ap (λ asked. past h.told ++ exchange_of asked (Replied said)) (ap (next_of (fixed_of given)) (sym here_is) ∙ took.next)
+    more = search (exchanges-take, here_is, arith)
 
     early_now : stage took.asked.1 ≤ 2
     early_now =

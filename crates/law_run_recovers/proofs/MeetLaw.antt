@@ -1,9 +1,9 @@
 -- Of two that meet at one suite, by votes that are tight, one is decided, whatever others do beside: else each had been refused by the other, and had votes that the other wanted.
-use Rattle.law_run_recovers.proofs.Vocabulary.{Bool, Contains, List, Some, [], ap, append-nil, append_assoc, arith, false, inl, inr, refl, subst, sym, true, ℕ, ⊎_elim, ◌++◌, ◌<◌, ◌==◌, ◌||◌, ◌∙◌, ◌∷◌, ◌≡◌, ◌⊎◌, eq-eqb, eqb-true, false≢true}
-use Rattle.law_run_recovers.proofs.Vocabulary.{list_any, is_decided, machine_of, IsNotDecided, beginning, row, find_some, Has, contains_from, has_any, has_from, State, Lock, decisions, run, table_of, server_at, step, EndedJob, Served}
-use Rattle.law_run_recovers.proofs.Vocabulary.{Event, Begin, Step, mode_of, Opening, LockMode, Exclusive, fixed_of, has_vote, Transaction, Configuration, votes_at, Begun, clashes, any_has, append_has_left, append_has_right, has_append}
-use Rattle.law_run_recovers.proofs.Vocabulary.{CanBe, ◌&&◌, votes_set, EndsThen, AreTight, first_clash, locks_at, locks_in, SetsApart, votes_now, asks_for, shown_at, world_after, IsTrue, not, ◌≤◌, World, begun_world, needed_of}
-use Rattle.law_run_recovers.proofs.Vocabulary.{shared_member, total_votes, votes_in, Always, OneThatMeetsBesideIsDecidedAt, AllOthers, TheyMeetBeside, first_asks, meets_some}
+use Rattle.law_run_recovers.proofs.Vocabulary.{Bool, Contains, List, Some, [], ap, append-nil, append_assoc, arith, false, inl, inr, refl, subst, sym, true, ℕ, ⊎_elim, ◌++◌, ◌<◌, ◌==◌, ◌||◌, ◌∙◌, ◌∷◌, ◌≡◌, ◌⊎◌, eq-eqb, eqb-true, false≢true, list_any}
+use Rattle.law_run_recovers.proofs.Vocabulary.{is_decided, machine_of, IsNotDecided, beginning, row, find_some, Has, contains_from, has_any, has_from, State, Lock, decisions, run, table_of, server_at, step, EndedJob, Served, Event, Begin, Step}
+use Rattle.law_run_recovers.proofs.Vocabulary.{mode_of, Opening, LockMode, Exclusive, fixed_of, has_vote, Transaction, Configuration, votes_at, Begun, clashes, any_has, append_has_left, append_has_right, has_append, CanBe, votes_set, EndsThen}
+use Rattle.law_run_recovers.proofs.Vocabulary.{AreTight, first_clash, locks_at, locks_in, SetsApart, votes_now, asks_for, shown_at, world_after, IsTrue, not, ◌≤◌, World, begun_world, needed_of, shared_member, total_votes, votes_in, Always}
+use Rattle.law_run_recovers.proofs.Vocabulary.{OneThatMeetsBesideIsDecidedAt, AllOthers, TheyMeetBeside, first_asks, meets_some}
 use Rattle.txn_core.specs.Doing as doing
 use Rattle.law_run_recovers.proofs.AmongCourse.{head_or, tail_or}
 use Rattle.law_run_recovers.proofs.Keeps.{IsAtWork, at_work_before}
@@ -29,9 +29,7 @@ clashes_some others one way has is = has_any (clashes one) others way (has_from 
 
 -- of two that are not both undecided one is decided
 pub not_neither : (a b : Bool) → (a ≡ false → b ≡ false → ⊥) → (a || b) ≡ true
-not_neither true b never = refl
-not_neither false true never = refl
-not_neither false false never = absurd (never refl refl)
+not_neither a b h2 = search arith
 
 -- ---- who is refused
 
@@ -39,8 +37,7 @@ pub none_apart : (given : Opening) (events : List Event) (sets : List (ℕ × Co
 none_apart given events sets one has = inr (λ mode there. has_from [] (one.0, mode) there)
 
 pub open_not : (b : Bool) → IsTrue (not b) → b ≡ false
-open_not false is = refl
-open_not true is = absurd cc
+open_not b h1 = search arith
 
 -- what some step of a front does some step of all does
 pub some_more : (p : Served → Bool) (agent : ℕ) (fixed : doing.Fixed) (w : World) (front back : List Event) → some_step p agent fixed w front ≡ true → some_step p agent fixed w (front ++ back) ≡ true
@@ -283,9 +280,7 @@ module _ (given : Opening) (events later : List Event) (one other : Begun given 
     -- so it did before
     in_front : (u : List Event) → part ≡ so_far ++ u → (back' : List Event) × (part ≡ so_far ++ Step i ∷ back')
     in_front [] is = absurd (not_after [] (sym (is ∙ append-nil so_far) ∙ sym (append-nil part)))
-    in_front (e ∷ u) is =
-        let rests : Step i ∷ back ≡ e ∷ (u ++ more) = cancel so_far (Step i ∷ back) (e ∷ (u ++ more)) (sym split ∙ order ∙ ap (λ part. part ++ more) is ∙ append_assoc so_far (e ∷ u) more) in
-        (u, is ∙ ap (λ e. so_far ++ e ∷ u) (sym (ap (head_or e) rests)))
+    in_front (e ∷ u) is = grind (cancel, append_assoc, head_or, arith)
 
     stands_before : says_held what.reply.value ≡ true → Granted' what.server t y (mode_of what.request.value)
     stands_before said =
@@ -341,8 +336,7 @@ module _ (given : Opening) (events later : List Event) (one other : Begun given 
 -- ---- the law
 
 tight_back : (votes : Configuration) (suite : ℕ) (asked others : List (ℕ × LockMode)) → AreTight votes suite asked others → AreTight votes suite others asked
-tight_back votes suite asked others tight mine theirs has there clash =
-    let is = tight theirs mine there has (clashes_back suite mine theirs clash) in omega (arith, is)
+tight_back votes suite asked others tight mine theirs has there clash = search (clashes_back, arith)
 
 -- one of these that is so
 pub any_front : {X : Type 0} (p : X → Bool) (xs ys : List X) → list_any p xs ≡ true → list_any p (xs ++ ys) ≡ true
@@ -353,10 +347,7 @@ any_back p xs ys is = let some = any_has p ys is in has_any p (xs ++ ys) some.0 
 
 -- an exclusive lock clashes with any of its suite
 pub exclusive_clashes : (asked : List (ℕ × LockMode)) (y : ℕ) (mode : LockMode) → mode ≡ Exclusive → asks_of asked y ≡ true → list_any (clashes (y, mode)) asked ≡ true
-exclusive_clashes asked y mode is has =
-    let some = any_has (λ (one : ℕ × LockMode). one.0 == y) asked has in
-    subst (λ mode. list_any (clashes (y, mode)) asked ≡ true) (sym is)
-    (has_any (clashes (y, Exclusive)) asked some.0 some.1 (ap (λ b. b && true) (eq-eqb y some.0.0 (sym (eqb-true some.0.0 y some.2)))))
+exclusive_clashes asked y mode is has = search arith
 
 never_meets : (lock : Lock) (asked : List (ℕ × LockMode)) → meets_some lock asked ≡ false → list_any (clashes (lock.suite, lock.mode)) asked ≡ true → ⊥
 never_meets lock asked none is = false≢true (sym none ∙ is)
@@ -382,8 +373,7 @@ module _ (given : Opening) (events later : List Event) (one other : Begun given 
 
     -- what one of them asks for nobody else has locked exclusively
     calm : Calm given events later Still
-    calm = calm_beside given events later meets.goes one other Still (λ lock. meets_some lock (Mine ++ Theirs) ≡ false) not_one not_other meets.beside
-        (λ lock aside kept exclusive. never_meets lock (Mine ++ Theirs) aside (exclusive_clashes (Mine ++ Theirs) lock.suite lock.mode exclusive kept))
+    calm = search (calm_beside, not_one, not_other, never_meets, exclusive_clashes, arith)
 
     ours : Ours given events later Still one
     ours = record { asks = λ z has. any_front (λ (one : ℕ × LockMode). one.0 == z) Mine Theirs has; served = meets.served }
@@ -399,16 +389,7 @@ module _ (given : Opening) (events later : List Event) (one other : Begun given 
 
     -- the same, the other first
     none_back : (lock : Lock) → meets_some lock (Mine ++ Theirs) ≡ false → meets_some lock (Theirs ++ Mine) ≡ false
-    none_back lock none = of (meets_some lock (Theirs ++ Mine)) refl
-      where
-        of : (b : Bool) → meets_some lock (Theirs ++ Mine) ≡ b → b ≡ false
-        of false is = refl
-        of true is =
-            let some = any_has (clashes (lock.suite, lock.mode)) (Theirs ++ Mine) is in
-            absurd (⊎_elim
-            (λ there. never_meets lock (Mine ++ Theirs) none (has_any (clashes (lock.suite, lock.mode)) (Mine ++ Theirs) some.0 (append_has_right Mine Theirs some.0 there) some.2))
-            (λ there. never_meets lock (Mine ++ Theirs) none (has_any (clashes (lock.suite, lock.mode)) (Mine ++ Theirs) some.0 (append_has_left Mine Theirs some.0 there) some.2))
-            (has_append Theirs Mine some.0 some.1))
+    none_back lock none = grind (any_has, never_meets, has_any, append_has_right, append_has_left, has_append, arith)
 
     beside_back : AllOthers given events later other one (λ lock. meets_some lock (first_asks given events later other ++ first_asks given events later one) ≡ false)
     beside_back before after server lock split has = ⊎_elim
@@ -419,11 +400,7 @@ module _ (given : Opening) (events later : List Event) (one other : Begun given 
     -- they are two
     module _ (two : (one.t == other.t) ≡ false) where
       two_back : (other.t == one.t) ≡ false
-      two_back = of (other.t == one.t) refl
-        where
-          of : (b : Bool) → (other.t == one.t) ≡ b → b ≡ false
-          of false is = refl
-          of true is = absurd (false≢true (sym two ∙ eq-eqb one.t other.t (sym (eqb-true other.t one.t is))))
+      two_back = search (false≢true, eq-eqb, eqb-true, arith)
 
       neither_of_two : ⊥
       neither_of_two = ⊎_elim
@@ -439,11 +416,7 @@ module _ (given : Opening) (events later : List Event) (one other : Begun given 
 
     -- or one, in whose way nobody is
     none_mine : (lock : Lock) → meets_some lock (Mine ++ Theirs) ≡ false → list_any (clashes (lock.suite, lock.mode)) (asks_for given events one.t one.caller one.ops) ≡ false
-    none_mine lock none = of (meets_some lock Mine) refl
-      where
-        of : (b : Bool) → meets_some lock Mine ≡ b → meets_some lock Mine ≡ false
-        of false is = is
-        of true is = absurd (never_meets lock (Mine ++ Theirs) none (any_front (clashes (lock.suite, lock.mode)) Mine Theirs is))
+    none_mine lock none = grind (never_meets, any_front, arith)
 
     apart_from_others : one.t ≡ other.t → (so_far back : List Event) → later ≡ so_far ++ back → (s : ℕ) (st : State) → server_at (run given (events ++ so_far)) s ≡ Some st → (lock : Lock) → Has st.locks lock
         → (lock.t ≡ one.t) ⊎ (list_any (clashes (lock.suite, lock.mode)) (asks_for given events one.t one.caller one.ops) ≡ false)
@@ -452,9 +425,7 @@ module _ (given : Opening) (events later : List Event) (one other : Begun given 
       where
         by : (lock : Lock) → (lock.t ≡ one.t) ⊎ ((lock.t ≡ other.t) ⊎ (meets_some lock (first_asks given events later one ++ first_asks given events later other) ≡ false))
             → (lock.t ≡ one.t) ⊎ (list_any (clashes (lock.suite, lock.mode)) (asks_for given events one.t one.caller one.ops) ≡ false)
-        by lock (inl own) = inl own
-        by lock (inr (inl own)) = inl (own ∙ sym same)
-        by lock (inr (inr aside)) = inr (none_mine lock aside)
+        by lock h1 = search (none_mine, arith)
 
     pub neither : ⊥
     neither = of (one.t == other.t) refl

@@ -1,13 +1,12 @@
 -- Locks in a calm run: one that was granted stands while its transaction is at work, and keeps out what clashes; and each that there is was granted.
-use Rattle.law_run_recovers.proofs.Vocabulary.{◌≡◌, inl, inr, ⊎_elim, ℕ, Bool, true, false, cond, List, [], ◌∷◌, ◌++◌, append_assoc, append-nil, Option, Some, None, is_some, refl, sym, ap, subst, ◌∙◌, arith, ◌==◌, ◌&&◌, ◌||◌, not, filter}
-use Rattle.law_run_recovers.proofs.Vocabulary.{map, slice_get, slice_set, list_any, false≢true, and_parts, and_from, eqb-true, eq-eqb, nat_tests, Identity, Opening, LockMode, Shared, Exclusive, is_exclusive, serves, stronger, AuditItem, Op}
-use Rattle.law_run_recovers.proofs.Vocabulary.{Lock, Request, Verdict, Stamped, copy_of, intended, State, record_of, reply_of, reply_up, reply_down, locking_reply, after_up, after_down, after_locking, after_record, prepares, served, Has}
-use Rattle.law_run_recovers.proofs.Vocabulary.{filter_has, between_has, map_has, any_has, has_any, find_none, mode_of, Transaction, fixed_of, Served, Event, Begin, Step, Crash, Return, Forget, Lack, Actor, World, server_at, actor_at, step}
-use Rattle.law_run_recovers.proofs.Vocabulary.{run, same_or, at_puts, step_is, puts_in, AllAt, MayAsk, asks_servers, clashes, locks_in, locks_at, takes, robs, hinders_itself, world_after, drops, bereaves, serves_itself}
-use Rattle.rep_core.specs.Locks.{locked, in_the_way, conflicts, has_lock, is_own, raised, raised_lock, with_lock, before, prepared_lock}
+use Rattle.law_run_recovers.proofs.Vocabulary.{◌≡◌, inl, inr, ⊎_elim, ℕ, Bool, true, false, cond, List, [], ◌∷◌, ◌++◌, append_assoc, append-nil, Option, Some, None, is_some, refl, sym, ap, subst, ◌∙◌, arith, ◌==◌, ◌&&◌, ◌||◌, not, filter, map}
+use Rattle.law_run_recovers.proofs.Vocabulary.{slice_get, slice_set, false≢true, and_parts, and_from, eqb-true, eq-eqb, nat_tests, Identity, Opening, LockMode, serves, stronger, AuditItem, Op, Lock, Request, Verdict, Stamped, copy_of, intended}
+use Rattle.law_run_recovers.proofs.Vocabulary.{State, record_of, reply_of, locking_reply, after_up, after_down, after_locking, after_record, prepares, served, Has, filter_has, between_has, map_has, any_has, has_any, find_none, mode_of, Transaction}
+use Rattle.law_run_recovers.proofs.Vocabulary.{fixed_of, Served, Event, Begin, Step, Crash, Actor, World, server_at, actor_at, step, run, same_or, at_puts, step_is, puts_in, AllAt, MayAsk, asks_servers, clashes, locks_in, locks_at, takes, robs}
+use Rattle.law_run_recovers.proofs.Vocabulary.{hinders_itself, world_after, drops, bereaves, serves_itself}
+use Rattle.rep_core.specs.Locks.{locked, in_the_way, has_lock, is_own, raised, raised_lock, with_lock, before, prepared_lock}
 use Rattle.rep_core.specs.Service.{after}
 use Rattle.rep_core.specs.declared.request.Request.TheVariants as request
-use Rattle.rep_core.specs.declared.reply.Reply.TheVariants as reply
 use Rattle.rep_core.specs.Serving as serving
 use Rattle.law_run_recovers.proofs.AtWork.{takes_nothing}
 use Rattle.law_run_recovers.proofs.Keeps.{IsAtWork, run_at, step_asks}
@@ -29,17 +28,10 @@ pub record HasMode (t z : ℕ) (mode : LockMode) (locks : List Lock) : Type 0 wh
   pub strong : serves lock.mode mode ≡ true
 
 serves_stronger : (a m : LockMode) → serves (stronger a m) m ≡ true
-serves_stronger Shared m = serves_itself m
-serves_stronger Exclusive m = refl
+serves_stronger a m = search arith
 
 stronger_serves : (a more mode : LockMode) → serves a mode ≡ true → serves (stronger a more) mode ≡ true
-stronger_serves Exclusive more mode is = refl
-stronger_serves Shared more Shared is = of more
-  where
-    of : (more : LockMode) → serves more Shared ≡ true
-    of Shared = refl
-    of Exclusive = refl
-stronger_serves Shared more Exclusive is = absurd (false≢true is)
+stronger_serves a more mode h3 = search arith
 
 has_amid : {X : Type 0} (xs : List X) (y : X) (ys : List X) → Has (xs ++ y ∷ ys) y
 has_amid [] y ys = inl refl
@@ -72,8 +64,7 @@ module _ (t z : ℕ) (mode : LockMode) where
   mode_locked u s m locks is = of (has_lock u s locks)
     where
       raised_serves : (b : Bool) → serves (cond b (stronger is.lock.mode m) is.lock.mode) mode ≡ true
-      raised_serves true = stronger_serves is.lock.mode m mode is.strong
-      raised_serves false = is.strong
+      raised_serves b = search (stronger_serves, arith)
 
       of : (b : Bool) → HasMode t z mode (cond b (raised u s m locks) (with_lock (record { t = u; suite = s; mode = m; prepared = false }) locks))
       of true = record { lock = raised_lock u s m is.lock; has = map_has (raised_lock u s m) locks is.lock is.has; own = is.own; strong = raised_serves (is_own u s is.lock) }
@@ -92,58 +83,29 @@ module _ (t z : ℕ) (mode : LockMode) where
     passed p passes = record { lock = is.lock; has = filter_has p st.locks is.lock is.has passes; own = is.own; strong = is.strong }
 
     locking : (other : Option Lock) (u s : ℕ) (m : LockMode) → HasMode t z mode (after_locking other u s m st).locks
-    locking (Some other) u s m = is
-    locking None u s m = mode_locked u s m st.locks is
+    locking other u s m = search (mode_locked, arith)
 
     recorded_same : (old : Option Verdict) (u : ℕ) (v : Verdict) (item : Option AuditItem) → HasMode t z mode (after_record old u v item st).locks
-    recorded_same (Some old) u v item = is
-    recorded_same None u v item = is
+    recorded_same old u v item = search arith
 
     not_named : (u : ℕ) → (u == t) ≡ false → (is.lock.t == u) ≡ false
-    not_named u apart = of (is.lock.t == u) refl
-      where
-        of : (b : Bool) → (is.lock.t == u) ≡ b → b ≡ false
-        of false same = refl
-        of true same = absurd (false≢true (sym apart ∙ eq-eqb u t (sym (eqb-true is.lock.t u same) ∙ own_t)))
+    not_named u apart = search arith
 
     both_not : (a b : Bool) → (a && b) ≡ false → b ≡ true → a ≡ false
-    both_not true b none so = absurd (false≢true (sym none ∙ so))
-    both_not false b none so = refl
+    both_not a b h2 h3 = search arith
 
     finish_spares : (u : ℕ) (v : Verdict) → takes t st (request.Finish u v) ≡ false → not (is.lock.t == u) ≡ true
-    finish_spares u v calm =
-        ap not (not_named u (both_not (u == t) (list_any (λ (lock : Lock). lock.t == t) st.locks) calm
-        (has_any (λ (lock : Lock). lock.t == t) st.locks is.lock is.has (eq-eqb is.lock.t t own_t))))
+    finish_spares u v calm = search (not_named, both_not, has_any, eq-eqb, own_t, arith)
 
     break_spares : (u s : ℕ) → takes t st (request.Break u s) ≡ false → not (is_own u s is.lock && not is.lock.prepared) ≡ true
-    break_spares u s calm = of (is_own u s is.lock && not is.lock.prepared) refl
-      where
-        of : (b : Bool) → (is_own u s is.lock && not is.lock.prepared) ≡ b → not b ≡ true
-        of false none = refl
-        of true some =
-            let parts = and_parts (is_own u s is.lock) (not is.lock.prepared) some in
-            let own = and_parts (is.lock.t == u) (is.lock.suite == s) parts.0 in
-            let same : u ≡ t = sym (eqb-true is.lock.t u own.0) ∙ own_t in
-            let there = has_any (λ (lock : Lock). is_own t s lock && not lock.prepared) st.locks is.lock is.has
-            (and_from (is_own t s is.lock) (not is.lock.prepared) (and_from (is.lock.t == t) (is.lock.suite == s) (eq-eqb is.lock.t t own_t) own.1) parts.1) in
-            absurd (false≢true (sym calm ∙ and_from (u == t) (list_any (λ (lock : Lock). is_own t s lock && not lock.prepared) st.locks) (eq-eqb u t same) there))
+    break_spares u s calm = search (and_parts, eqb-true, own_t, has_any, and_from, eq-eqb, false≢true, arith)
 
     crash_spares : drops t st request.Crash ≡ false → is.lock.prepared ≡ true
-    crash_spares calm = of is.lock.prepared refl
-      where
-        of : (b : Bool) → is.lock.prepared ≡ b → b ≡ true
-        of true prepared = refl
-        of false prepared =
-            absurd (false≢true (sym calm ∙ has_any (λ (lock : Lock). (lock.t == t) && not lock.prepared) st.locks is.lock is.has
-            (and_from (is.lock.t == t) (not is.lock.prepared) (eq-eqb is.lock.t t own_t) (ap not prepared))))
+    crash_spares calm = search (false≢true, has_any, and_from, eq-eqb, own_t, arith)
 
     up_keeps : (asked : Request) → takes t st asked ≡ false → drops t st asked ≡ false → HasMode t z mode (after_up st asked).locks
     up_keeps (request.Poll u s m) calm other = locking (in_the_way u s m st.locks) u s m
-    up_keeps (request.Upgrade u s) calm other = of (has_lock u s st.locks)
-      where
-        of : (b : Bool) → HasMode t z mode (cond b (after_locking (in_the_way u s Exclusive st.locks) u s Exclusive st) st).locks
-        of true = locking (in_the_way u s Exclusive st.locks) u s Exclusive
-        of false = is
+    up_keeps (request.Upgrade u s) calm other = search (locking, arith)
     up_keeps (request.Prepare u parts) calm other = of (prepares st u parts)
       where
         of : (b : Bool) → HasMode t z mode (cond b (record st { store = intended u parts st.store; locks = map (prepared_lock u parts) st.locks }) st).locks
@@ -168,60 +130,14 @@ pub record Granted (t z : ℕ) (st : State) (asked : Request) : Type 0 where
 
 granted_poll : (st : State) (t z : ℕ) (mode : LockMode) → says_held (locking_reply (in_the_way t z mode st.locks) (copy_of st.store z)) ≡ true
     → (in_the_way t z mode st.locks ≡ None) × HasMode t z mode (after_locking (in_the_way t z mode st.locks) t z mode st).locks
-granted_poll st t z mode said = of (in_the_way t z mode st.locks) refl said
-  where
-    of : (found : Option Lock) → in_the_way t z mode st.locks ≡ found → says_held (locking_reply found (copy_of st.store z)) ≡ true → (found ≡ None) × HasMode t z mode (after_locking found t z mode st).locks
-    of None is said = (refl, locked_has t z mode st.locks)
-    of (Some lock) is said = absurd (false≢true said)
+granted_poll st t z mode said = search (says_held, locked_has, false≢true, arith)
 
 pub granted : (t z : ℕ) (st : State) (asked : Request) → st.up ≡ true → for_lock t z asked ≡ true → says_held (reply_of st asked) ≡ true → Granted t z st asked
-granted t z st (request.Poll u s mode) up lock said =
-    let parts = and_parts (u == t) (s == z) lock in
-    let g = granted_poll st u s mode (ap (λ b. says_held (cond b (reply_up st (request.Poll u s mode)) (reply_down (request.Poll u s mode)))) (sym up) ∙ said) in
-    subst (λ t. Granted t z st (request.Poll u s mode)) (eqb-true u t parts.0)
-    (subst (λ z. Granted u z st (request.Poll u s mode)) (eqb-true s z parts.1)
-    (record { free = g.0; has = subst (λ b. HasMode u s mode (cond b (after_up st (request.Poll u s mode)) (after_down st (request.Poll u s mode))).locks) (sym up) g.1 }))
-granted t z st (request.Upgrade u s) up lock said = of (has_lock u s st.locks) refl
-  where
-    parts : ((u == t) ≡ true) × ((s == z) ≡ true)
-    parts = and_parts (u == t) (s == z) lock
-
-    said_up : says_held (reply_up st (request.Upgrade u s)) ≡ true
-    said_up = ap (λ b. says_held (cond b (reply_up st (request.Upgrade u s)) (reply_down (request.Upgrade u s)))) (sym up) ∙ said
-
-    of : (b : Bool) → has_lock u s st.locks ≡ b → Granted t z st (request.Upgrade u s)
-    of true is =
-        let g = granted_poll st u s Exclusive (ap (λ b. says_held (cond b (locking_reply (in_the_way u s Exclusive st.locks) (copy_of st.store s)) reply.Lost)) (sym is) ∙ said_up) in
-        subst (λ t. Granted t z st (request.Upgrade u s)) (eqb-true u t parts.0)
-        (subst (λ z. Granted u z st (request.Upgrade u s)) (eqb-true s z parts.1)
-        (record {
-          free = g.0;
-          has = subst (λ b. HasMode u s Exclusive (cond b (after_up st (request.Upgrade u s)) (after_down st (request.Upgrade u s))).locks) (sym up)
-              (subst (λ b. HasMode u s Exclusive (cond b (after_locking (in_the_way u s Exclusive st.locks) u s Exclusive st) st).locks) (sym is) g.1);
-        }))
-    of false is = absurd (false≢true (sym (ap (λ b. says_held (cond b (locking_reply (in_the_way u s Exclusive st.locks) (copy_of st.store s)) reply.Lost)) is) ∙ said_up))
-granted t z st other up lock said = absurd (false≢true lock)
+granted t z st asked h4 h5 h6 = search (and_parts, granted_poll, says_held, eqb-true, false≢true, arith)
 
 -- where a lock of another that clashes is there, none is free
 pub keeps_out : (t u z : ℕ) (m k : LockMode) (locks : List Lock) → (t == u) ≡ false → HasMode t z m locks → clashes (z, m) (z, k) ≡ true → in_the_way u z k locks ≡ None → ⊥
-keeps_out t u z m k locks apart is clash free =
-    false≢true (sym (find_none (conflicts u z k) locks is.lock free is.has)
-    ∙ met (is.lock.suite == z) (is.lock.t == u) (is_exclusive k || is_exclusive is.lock.mode) own.1 apart' (way is.lock.mode m k is.strong (and_parts (z == z) (is_exclusive m || is_exclusive k) clash).1))
-  where
-    own : ((is.lock.t == t) ≡ true) × ((is.lock.suite == z) ≡ true)
-    own = and_parts (is.lock.t == t) (is.lock.suite == z) is.own
-
-    apart' : (is.lock.t == u) ≡ false
-    apart' = ap (λ n. n == u) (eqb-true is.lock.t t own.0) ∙ apart
-
-    met : (a b c : Bool) → a ≡ true → b ≡ false → c ≡ true → (a && not b && c) ≡ true
-    met a b c one other third = grind (arith, nat_tests)
-
-    way : (have m k : LockMode) → serves have m ≡ true → (is_exclusive m || is_exclusive k) ≡ true → (is_exclusive k || is_exclusive have) ≡ true
-    way have m Exclusive strong is = refl
-    way Exclusive m Shared strong is = refl
-    way Shared Shared Shared strong is = is
-    way Shared Exclusive Shared strong is = absurd (false≢true strong)
+keeps_out t u z m k locks apart is clash free = search (false≢true, find_none, and_parts, eqb-true, nat_tests, arith)
 
 -- ---- in its run
 
@@ -292,37 +208,13 @@ module _ (given : Opening) (events later : List Event) (fair : Fair given events
     lock_same u z = and_from (u == u) (z == z) (eq-eqb u u refl) (eq-eqb z z refl)
 
     by_poll : (u z : ℕ) (mode : LockMode) → asked.value ≡ request.Poll u z mode → AllOwned (O s) (served st asked).locks
-    by_poll u z mode is = of (in_the_way u z mode st.locks) refl
-      where
-        of : (found : Option Lock) → in_the_way u z mode st.locks ≡ found → AllOwned (O s) (served st asked).locks
-        of None free =
-            granted_so (subst (MayLock (O s)) (sym is) (subst (λ m. O s u z m) (ap mode_of is) (may u z (ap (for_lock u z) is ∙ lock_same u z)
-            (ap (λ value. says_held (reply_of st value)) is ∙ ap (λ b. says_held (cond b (reply_up st (request.Poll u z mode)) (reply_down (request.Poll u z mode)))) up ∙ ap
-            (λ found. says_held (locking_reply found (copy_of st.store z))) free))))
-        of (Some other) met =
-            unchanged (ap (λ value. (after st value).locks) is ∙ ap (λ b. (cond b (after_up st (request.Poll u z mode)) (after_down st (request.Poll u z mode))).locks) up ∙ ap (λ found. (after_locking found u z mode st).locks) met)
+    by_poll u z mode is = search (granted_so, for_lock, lock_same, says_held, unchanged, arith)
 
     by_upgrade : (u z : ℕ) → asked.value ≡ request.Upgrade u z → AllOwned (O s) (served st asked).locks
-    by_upgrade u z is = of (has_lock u z st.locks) refl (in_the_way u z Exclusive st.locks) refl
-      where
-        Then : Bool → Option Lock → List Lock
-        Then b found = (cond b (after_locking found u z Exclusive st) st).locks
-
-        after_is : (after st asked.value).locks ≡ (cond (has_lock u z st.locks) (after_locking (in_the_way u z Exclusive st.locks) u z Exclusive st) st).locks
-        after_is = ap (λ value. (after st value).locks) is ∙ ap (λ b. (cond b (after_up st (request.Upgrade u z)) (after_down st (request.Upgrade u z))).locks) up
-
-        of : (b : Bool) → has_lock u z st.locks ≡ b → (found : Option Lock) → in_the_way u z Exclusive st.locks ≡ found → AllOwned (O s) (served st asked).locks
-        of false none found way = unchanged (after_is ∙ ap (λ b. Then b (in_the_way u z Exclusive st.locks)) none)
-        of true some (Some other) way = unchanged (after_is ∙ ap (λ b. Then b (in_the_way u z Exclusive st.locks)) some ∙ ap (λ found. Then true found) way)
-        of true some None way =
-            granted_so (subst (MayLock (O s)) (sym is) (subst (λ m. O s u z m) (ap mode_of is) (may u z (ap (for_lock u z) is ∙ lock_same u z)
-            (ap (λ value. says_held (reply_of st value)) is ∙ ap (λ b. says_held (cond b (reply_up st (request.Upgrade u z)) (reply_down (request.Upgrade u z)))) up
-            ∙ ap (λ b. says_held (cond b (locking_reply (in_the_way u z Exclusive st.locks) (copy_of st.store z)) reply.Lost)) some ∙ ap (λ found. says_held (locking_reply found (copy_of st.store z))) way))))
+    by_upgrade u z is = search (unchanged, granted_so, for_lock, lock_same, says_held, arith)
 
     owned_served : (value : Request) → asked.value ≡ value → AllOwned (O s) (served st asked).locks
-    owned_served (request.Poll u z mode) is = by_poll u z mode is
-    owned_served (request.Upgrade u z) is = by_upgrade u z is
-    owned_served other is = granted_so (subst (MayLock (O s)) (sym is) tt)
+    owned_served value h1 = search (by_poll, by_upgrade, granted_so, arith)
 
   module _ (so_far rest : List Event) (event : Event) (split : later ≡ so_far ++ event ∷ rest) (all : AllAt OwnedAt (run given (events ++ so_far))) where
     abbrev w : World
@@ -356,12 +248,7 @@ module _ (given : Opening) (events later : List Event) (fair : Fair given events
     owned_other event may = asks_servers (fixed_of given) OwnedAt (λ s asked. MayLock (O s) asked) (λ s st asked may all. owned_stays (O s) st asked may all) w all event may
 
     owned_next : (same : Event) → event ≡ same → AllAt OwnedAt (step (fixed_of given) (run given (events ++ so_far)) same).world
-    owned_next (Step i) is = owned_step i is
-    owned_next (Begin i job) is = owned_other (Begin i job) tt
-    owned_next (Crash server) is = owned_other (Crash server) tt
-    owned_next (Return server) is = owned_other (Return server) tt
-    owned_next (Forget i site) is = owned_other (Forget i site) tt
-    owned_next (Lack i why) is = owned_other (Lack i why) tt
+    owned_next same h1 = search (owned_step, owned_other, arith)
 
   pub owned_at : ((s : ℕ) (st : State) → server_at (run given (events ++ [])) s ≡ Some st → AllOwned (O s) st.locks) → (so_far rest : List Event) → later ≡ so_far ++ rest
       → (s : ℕ) (st : State) → server_at (run given (events ++ so_far)) s ≡ Some st → AllOwned (O s) st.locks

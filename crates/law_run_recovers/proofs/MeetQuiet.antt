@@ -1,9 +1,9 @@
 -- A transaction in whose run nothing is decided that touches it: no server is down or crashes, nobody takes a lock of it, and of what it asks for stored copies and rows stand still.
-use Rattle.law_run_recovers.proofs.Vocabulary.{◌≡◌, ◌⊎◌, inl, ⊎_elim, ℕ, Bool, true, false, cond, List, [], ◌∷◌, ◌++◌, Some, None, is_some, refl, sym, ap, subst, ◌∙◌, ◌==◌, ◌&&◌, ◌||◌, not, nat_lt, false≢true, and_parts, or_parts, and_from}
-use Rattle.law_run_recovers.proofs.Vocabulary.{eq-eqb, same_Some, Identity, Opening, Prefix, LockMode, Shared, Exclusive, serves, Op, Request, reply_of, copy_of, State, Has, has_any, find_some, Said, mode_of, Transaction, Replied, Agent}
-use Rattle.law_run_recovers.proofs.Vocabulary.{fixed_of, is_idle, has_sense, max_jobs, next_of, take, begin, forget, after_all, Exchange, exchange_of, of_job, locks, has_said, is_said, holding, refusing, heard_in, after-append}
-use Rattle.law_run_recovers.proofs.Vocabulary.{exchanges-take, exchanges-forget, Served, Event, Begin, Step, Actor, World, server_at, actor_at, step, run, table_of, WasPrefix, beginning, machine_of, append_has_left, append_has_right, CanBe}
-use Rattle.law_run_recovers.proofs.Vocabulary.{begins_job, is_up, shown_at, asks_for, row_of, MayStart, begun_world, world_after, robs, hinders_itself, bereaves, not-true}
+use Rattle.law_run_recovers.proofs.Vocabulary.{◌≡◌, ◌⊎◌, ⊎_elim, ℕ, Bool, true, false, cond, List, [], ◌∷◌, ◌++◌, Some, is_some, refl, sym, ap, subst, ◌∙◌, ◌==◌, ◌&&◌, ◌||◌, not, nat_lt, false≢true, and_parts, and_from, arith, eq-eqb, same_Some}
+use Rattle.law_run_recovers.proofs.Vocabulary.{Identity, Opening, Prefix, LockMode, Shared, serves, Op, Request, reply_of, copy_of, State, Has, has_any, find_some, Said, mode_of, Transaction, Replied, Agent, fixed_of, is_idle, next_of, take, begin}
+use Rattle.law_run_recovers.proofs.Vocabulary.{forget, after_all, Exchange, of_job, locks, has_said, is_said, holding, refusing, heard_in, after-append, exchanges-take, exchanges-forget, Served, Event, Begin, Step, Actor, World, server_at, actor_at}
+use Rattle.law_run_recovers.proofs.Vocabulary.{step, run, table_of, WasPrefix, beginning, machine_of, append_has_left, append_has_right, CanBe, begins_job, is_up, shown_at, asks_for, row_of, MayStart, begun_world, world_after, robs, hinders_itself}
+use Rattle.law_run_recovers.proofs.Vocabulary.{bereaves, not-true}
 use Rattle.suite_collect.specs.Telling.{is_held}
 use Rattle.law_agents.proofs.Gathered.{gathers_in_order}
 use Rattle.law_agents.specs.Orders.{number_of}
@@ -13,11 +13,10 @@ use Rattle.law_agents.specs.Gathers as gathers
 use Rattle.law_run_recovers.proofs.AmongCourse.{parted}
 use Rattle.law_run_recovers.proofs.Apart.{Apart, event_apart}
 use Rattle.law_run_recovers.proofs.Found.{Answering}
-use Rattle.law_run_recovers.proofs.Keeps.{IsAtWork, works, after_append, at_work_before}
-use Rattle.law_run_recovers.proofs.Open.{its_begin, begun_there}
+use Rattle.law_run_recovers.proofs.Keeps.{IsAtWork, after_append, at_work_before}
+use Rattle.law_run_recovers.proofs.Open.{begun_there}
 use Rattle.law_run_recovers.proofs.Polled.{dver_at}
 use Rattle.law_run_recovers.proofs.Stands.{asks_of}
-use Rattle.law_run_recovers.proofs.Still.{IsOpen}
 use Rattle.law_run_recovers.proofs.StepsServed.{own_took}
 use Rattle.law_run_recovers.proofs.Picks.{along}
 
@@ -42,13 +41,6 @@ module _ (given : Opening) (base events later : List Event) (agent t : ℕ) (cal
     pub starts : (z : ℕ) (start : Prefix) → asks_of (asks_for given base t caller ops) z ≡ true → MayStart (fixed_of given) actor.agent.cache site z start → WasPrefix (beginning z given) (machine_of given z base).log start
 
 -- ---- what it was told
-
-busy_open : (agent : Agent) → IsOpen agent.doing → is_idle agent.doing ≡ false
-busy_open agent = of agent.doing
-  where
-    of : (doing : _) → IsOpen doing → is_idle doing ≡ false
-    of None open' = absurd open'
-    of (Some doing) open' = refl
 
 three : (a b c : Bool) → (a && b && c) ≡ true → (a ≡ true) × (b ≡ true) × (c ≡ true)
 three a b c is = let front = and_parts (a && b) c is in let two = and_parts a b front.0 in (two.0, two.1, front.1)
@@ -97,13 +89,10 @@ module _ (given : Opening) (base events later : List Event) (agent t : ℕ) (cal
 
   module _ (so_far rest : List Event) (event : Event) (split : later ≡ so_far ++ event ∷ rest) (work : IsAtWork (world_after given events agent caller site ops so_far) agent t) where
     pub unhindered : hinders_itself given agent (world_after given events agent caller site ops so_far) event ≡ false
-    unhindered =
-        (or_parts (hinders_itself given agent (world_at so_far) event) (robs given agent t (world_at so_far) event || bereaves given agent t (world_at so_far) event) (goes.spared so_far rest event split work)).0
+    unhindered = search arith
 
     pub here_open : (here : Actor) → actor_at (world_after given events agent caller site ops so_far) agent ≡ Some here → is_idle here.agent.doing ≡ false
-    here_open here there =
-        let now = works (world_at so_far) agent t work in
-        busy_open here.agent (subst (λ (a : Actor). IsOpen a.agent.doing) (same_Some now.actor here (sym now.there ∙ there)) now.is_open)
+    here_open here there = search arith
 
     -- its own step, or one that is apart from it
     pub parts : (here : Actor) (there : actor_at (world_after given events agent caller site ops so_far) agent ≡ Some here)
@@ -117,11 +106,7 @@ module _ (given : Opening) (base events later : List Event) (agent t : ℕ) (cal
         -- no step of its own is new
         old_past : (event ≡ Step agent → ⊥) → (told : List agents.Event) → past_of told ≡ past_of h.told → (front back : List Event) (what : Served) → so_far ++ event ∷ [] ≡ front ++ Step agent ∷ back
             → (step (fixed_of given) (world_at front) (Step agent)).done.served ≡ Some what → Has (past_of told) (exchange what)
-        old_past other told same front back what is served =
-            ⊎_elim
-            (λ here. absurd (other (sym here.1)))
-            (λ old. subst (λ past. Has past (exchange what)) (sym same) (h.past front old.0 what old.1 served))
-            (parted so_far event front (Step agent) back is)
+        old_past other told same front back what is served = search (parted, arith)
 
         aside : Apart given agent (world_after given events agent caller site ops so_far) h.here h.there (here_open h.here h.there)
             (step (fixed_of given) (world_after given events agent caller site ops so_far) event) × (event ≡ Step agent → ⊥) → Heard (so_far ++ event ∷ [])
@@ -152,17 +137,7 @@ module _ (given : Opening) (base events later : List Event) (agent t : ℕ) (cal
               there = ap (λ w. actor_at w agent) (next_is so_far event) ∙ ap (λ event. actor_at (step (fixed_of given) (world_at so_far) event).world agent) is.0 ∙ took.now;
               told = told;
               is = took.took ∙ ap (λ a. (take (fixed_of given) a (Replied said)).agent) h.is ∙ sym (after-append (fixed_of given) begun h.told (agents.Take (Replied said)));
-              past = λ front back what parts' served.
-                  let one : Exchange = record { server = took.asked.0; request = took.asked.1; response = Replied said } in
-                  let more : past_of told ≡ past_of h.told ++ one ∷ [] =
-                  exchanges-take (fixed_of given) begun h.told (Replied said) ∙ ap (λ asked. past_of h.told ++ exchange_of asked (Replied said)) (ap (next_of (fixed_of given)) (sym h.is) ∙ took.next) in
-                  subst (λ past. Has past (exchange what)) (sym more)
-                  (⊎_elim
-                  (λ here.
-                  let same = same_Some _ what (sym took.done ∙ ap (λ front. (step (fixed_of given) (world_at front) (Step agent)).done.served) (sym here.0) ∙ served) in
-                  append_has_right (past_of h.told) (one ∷ []) (exchange what) (inl (ap exchange same)))
-                  (λ old. append_has_left (past_of h.told) (one ∷ []) (exchange what) (h.past front old.0 what old.1 served))
-                  (parted so_far event front (Step agent) back parts'));
+              past = search (exchanges-take, same_Some, append_has_right, append_has_left, parted, arith);
             }
 
   -- at each moment at which it is at work
@@ -174,10 +149,7 @@ module _ (given : Opening) (base events later : List Event) (agent t : ℕ) (cal
       (λ work. heard_first)
 
   pub idle_before : is_idle actor.agent.doing ≡ true
-  idle_before =
-      (and_parts (is_idle actor.agent.doing) (has_sense (fixed_of given) (Transaction caller site ops))
-      (and_parts (is_idle actor.agent.doing && has_sense (fixed_of given) (Transaction caller site ops)) (nat_lt actor.agent.count max_jobs)
-      (its_begin given events later agent t caller site ops actor goes.can goes.there goes.begins).1).0).0
+  idle_before = search arith
 
   -- ---- whom it asks for a lock, it was not refused by, and does not hold it there
 
@@ -196,9 +168,7 @@ module _ (given : Opening) (base events later : List Event) (agent t : ℕ) (cal
       where
         of : (b : Bool) → has_said (past_of h.told) z (holding Shared) asked.0 ≡ b → (mode : LockMode) → asked.1 ≡ cond b (request.Upgrade (number_of asked.1) z) (request.Poll (number_of asked.1) z mode)
             → has_said (past_of h.told) z (holding mode) asked.0 ≡ false → mode_of asked.1 ≡ mode
-        of false is mode asks none = ap mode_of asks
-        of true is Shared asks none = absurd (false≢true (sym none ∙ is))
-        of true is Exclusive asks none = ap mode_of asks
+        of b h1 mode h3 h4 = search (false≢true, arith)
 
     pub never_refused : (one : Exchange) (said : Said) → Has (past_of h.told) one → one.server ≡ asked.0 → locks z one.request ≡ true → heard_in one.request one.response ≡ Some said → is_held said ≡ true
     never_refused one said has at of_z heard = of (is_held said) refl

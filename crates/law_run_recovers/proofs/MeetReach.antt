@@ -1,15 +1,13 @@
 -- A transaction in whose run nothing is decided: whatever lock it asks for, it has had all those before, by the votes of the rows; and where its end is fixed, too few votes
 -- were open of one, as they are found.
-use Rattle.law_run_recovers.proofs.Vocabulary.{◌≡◌, ◌⊎◌, inl, inr, ⊎_elim, ℕ, ◌≤◌, ◌<◌, Bool, true, false, cond, List, [], ◌∷◌, ◌++◌, Option, Some, None, Result, Ok, Err, refl, sym, ap, subst, ◌∙◌, arith, ◌==◌, not, nat_le, map, find}
-use Rattle.law_run_recovers.proofs.Vocabulary.{Contains, false≢true, and_parts, eq-eqb, eqb-true, has_any, ltb-false, nat_tests, none-some, same_Some, Identity, Configuration, votes_in, votes_in-wider, Opening, Prefix, LockMode, Shared}
-use Rattle.law_run_recovers.proofs.Vocabulary.{Exclusive, serves, Answer, Op, Refusal, Request, Reply, row_of, needs, transaction, find_some, Has, has_from, has_map, contains_from, holds, newest, Cache, Undecided, Replied, Suites, suite_of}
-use Rattle.law_run_recovers.proofs.Vocabulary.{parts_at, Phase, Gathering, Fetching, Preparing, Deciding, Finishing, home_of, request_in, asked_for, changes_of, decision_of, fixed_of, next_in, next_of, is_decide, asks_same, Served, Event}
-use Rattle.law_run_recovers.proofs.Vocabulary.{Step, Actor, actor_at, step, run, table_of, WasPrefix, IsQuorum, beginning, machine_of, row_at, all_keep, is_up, shown_at, newer_by, locks_asked, votes_set, is_met, demand_by, led_to_by}
-use Rattle.law_run_recovers.proofs.Vocabulary.{MayStart, ending_by, ending_of, answer_on, asks_for, Want, first_mode, world_after, says_held, votes_now, same_mode}
-use Rattle.suite_collect.specs.Collecting.{mode_or, Collector, all_told, Asked, Poll, Upgrade, needed_of, wanted, mode_of, mode_asked, request_for}
+use Rattle.law_run_recovers.proofs.Vocabulary.{◌≡◌, ◌⊎◌, inl, inr, ⊎_elim, ℕ, ◌≤◌, ◌<◌, Bool, true, false, List, [], ◌∷◌, ◌++◌, Option, Some, None, Result, refl, sym, ap, subst, ◌∙◌, arith, ◌==◌, not, nat_le, map, find, Contains, false≢true}
+use Rattle.law_run_recovers.proofs.Vocabulary.{and_parts, eq-eqb, eqb-true, has_any, ltb-false, nat_tests, none-some, same_Some, Identity, Configuration, votes_in, votes_in-wider, Opening, Prefix, LockMode, Shared, Exclusive, serves, Answer, Op}
+use Rattle.law_run_recovers.proofs.Vocabulary.{Refusal, Request, Reply, row_of, needs, transaction, find_some, Has, has_from, has_map, contains_from, holds, newest, Cache, Undecided, Replied, Suites, suite_of, Phase, Gathering, Fetching, Preparing}
+use Rattle.law_run_recovers.proofs.Vocabulary.{Deciding, Finishing, home_of, request_in, asked_for, fixed_of, next_in, next_of, is_decide, asks_same, Served, Event, Step, Actor, actor_at, step, run, table_of, WasPrefix, IsQuorum, beginning}
+use Rattle.law_run_recovers.proofs.Vocabulary.{machine_of, row_at, all_keep, is_up, shown_at, newer_by, locks_asked, votes_set, is_met, demand_by, led_to_by, MayStart, ending_by, ending_of, answer_on, asks_for, Want, first_mode, world_after}
+use Rattle.law_run_recovers.proofs.Vocabulary.{says_held, votes_now, same_mode}
+use Rattle.suite_collect.specs.Collecting.{mode_or, Collector, all_told, Asked, needed_of, wanted, mode_of, mode_asked, request_for}
 use Rattle.txn_core.specs.Suites.{told_in}
-use Rattle.rep_core.specs.declared.request.Request.TheVariants as request
-use Rattle.rep_core.specs.declared.reply.Reply.TheVariants as reply
 use Rattle.txn_core.specs.Doing as doing
 use Rattle.law_one_table.proofs.Effects as effects
 use Rattle.law_run_recovers.proofs.Asked.{onto_left, onto_so_far, asked_exclusive, next_mode}
@@ -52,11 +50,7 @@ has_append (y ∷ xs) ys x (inr has) = ⊎_elim (λ left. inl (inr left)) (λ ri
 -- the first that passes a test is one that came before, or the first of what is left
 pub find_onto : {X : Type 0} (p : X → Bool) (before left : List X) (x : X) → find p (onto before left) ≡ Some x → Has before x ⊎ (find p left ≡ Some x)
 find_onto p [] left x is = inr is
-find_onto p (b ∷ before) left x is = ⊎_elim (λ has. inl (inr has)) (λ rest. of (p b) rest) (find_onto p before (b ∷ left) x is)
-  where
-    of : (passes : Bool) → cond passes (Some b) (find p left) ≡ Some x → Has (b ∷ before) x ⊎ (find p left ≡ Some x)
-    of true is = inl (inl (same_Some b x is))
-    of false is = inr is
+find_onto p (b ∷ before) left x is = search (same_Some, find_onto p before (b ∷ left) x is, arith)
 
 -- A lock that one asks for, all before which it has had: by who granted them it has enough of these votes of each suite.
 pub record Reached (votes : ℕ → Configuration) (asked : List (ℕ × LockMode)) (held : ℕ → LockMode → ℕ → Bool) (one : ℕ × LockMode) : Type 0 where
@@ -72,10 +66,7 @@ module _ (votes : ℕ → Configuration) (asked : List (ℕ × LockMode)) (held 
   -- the first that passes a test, if it passes it, was had, or is it
   pub reached_first : (p : ℕ × LockMode → Bool) (one first : ℕ × LockMode) → Reached votes asked held one → p one ≡ true → find p asked ≡ Some first
       → (needed_of first.1 (votes first.0) ≤ votes_in (votes first.0).reps (held first.0 first.1)) ⊎ (one ≡ first)
-  reached_first p one first r passes is =
-      ⊎_elim (λ has. inl (r.had first has))
-      (λ rest. inr (same_Some one first (sym (ap (λ b. cond b (Some one) (find p r.after)) passes) ∙ rest)))
-      (find_onto p r.before (one ∷ r.after) first (ap (find p) (sym r.parts) ∙ is))
+  reached_first p one first r passes is = search (find_onto p r.before (one ∷ r.after) first (ap (find p) (sym r.parts) ∙ is), same_Some, arith)
 
   -- and so by whoever granted more
   pub reached_wider : (wider : ℕ → LockMode → ℕ → Bool) → ((z : ℕ) (mode : LockMode) (server : ℕ) → held z mode server ≡ true → wider z mode server ≡ true) → (one : ℕ × LockMode) → Reached votes asked held one
@@ -84,8 +75,7 @@ module _ (votes : ℕ → Configuration) (asked : List (ℕ × LockMode)) (held 
     before = r.before;
     after = r.after;
     parts = r.parts;
-    had = λ other has. le_trans (needed_of other.1 (votes other.0)) (votes_in (votes other.0).reps (held other.0 other.1)) (votes_in (votes other.0).reps (wider other.0 other.1)) (r.had other has)
-        (votes_in-wider (votes other.0).reps (held other.0 other.1) (wider other.0 other.1) (λ server is. more other.0 other.1 server is));
+    had = search (le_trans, held, votes_in-wider, arith);
   }
     where
       le_trans : (a b c : ℕ) → a ≤ b → b ≤ c → a ≤ c
@@ -98,8 +88,7 @@ too_few : (a b : ℕ) → not (nat_le a b) ≡ true → b < a
 too_few a b is = grind (arith, nat_tests)
 
 says_so : (answer : Reply) → held_by answer ≡ true → says_held (Replied answer) ≡ true
-says_so (reply.Held prefix dver) is = refl
-says_so other is = absurd (false≢true is)
+says_so answer h1 = search arith
 
 module _ (given : Opening) (base events later : List Event) (agent t : ℕ) (caller : Identity) (site : ℕ) (ops : List Op) (actor : Actor) (goes : GoesQuietly given base events later agent t caller site ops actor)
     (never : (so_far rest : List Event) → later ≡ so_far ++ Step agent ∷ rest → IsAtWork (world_after given events agent caller site ops so_far) agent t → (here : Actor) → actor_at
@@ -156,8 +145,7 @@ module _ (given : Opening) (base events later : List Event) (agent t : ℕ) (cal
             (λ server. opens_wider S one.0 one.1 (first_mode (asks_for given base t caller ops) one.0) server (wide one has)))
 
         quorum : (mode : LockMode) → one.1 ≡ mode → nat_le (needed_of one.1 (found one.0 start).votes) (votes_in (found one.0 start).votes.reps (opens one.0 one.1)) ≡ true → IsQuorum (found one.0 start).votes (finds_at S one.0)
-        quorum Shared same is = inl (more (found one.0 start).votes.r (subst (λ mode. nat_le (needed_of mode (found one.0 start).votes) (votes_in (found one.0 start).votes.reps (opens one.0 one.1)) ≡ true) same is))
-        quorum Exclusive same is = inr (more (found one.0 start).votes.w (subst (λ mode. nat_le (needed_of mode (found one.0 start).votes) (votes_in (found one.0 start).votes.reps (opens one.0 one.1)) ≡ true) same is))
+        quorum mode h1 h2 = search (more, nat_le, votes, arith)
 
     locks_are : locks_on (table_of given base) (its given base events later agent t caller site ops actor goes) ≡ asks_for given base t caller ops
     locks_are = ap (λ n. locks_asked (table_of given base) n caller ops) (number given base events later agent t caller site ops actor goes)
@@ -197,20 +185,10 @@ module _ (given : Opening) (base events later : List Event) (agent t : ℕ) (cal
             ++ map of_votes (sets_on (table_of given base) (its given base events later agent t caller site ops actor goes))
 
         undecided_not : (answer : Result (List Answer) Refusal) → Undecided short.cause ≡ ending_of answer → ⊥
-        undecided_not (Ok answers) is = cc
-        undecided_not (Err refusal) is = cc
+        undecided_not answer h1 = search arith
 
         of_set : (set : ℕ × Configuration) → Has (sets_on (table_of given base) (its given base events later agent t caller site ops actor goes)) set → unmet S (of_votes set) ≡ true → IsWanting
-        of_set set has few =
-            let there = subst (λ all. Has all set) sets_are has in
-            record {
-              suite = set.0;
-              mode = Exclusive;
-              asks = contains_from asked (set.0, Exclusive) (sets_asked (table_of given base) t caller ops set there);
-              votes = set.1;
-              few = too_few set.1.w (votes_in set.1.reps (opens set.0 Exclusive)) few;
-              how = inl (refl, contains_from (votes_set (table_of given base) t caller ops) set there);
-            }
+        of_set set has few = grind (sets_are, asks, contains_from, sets_asked, too_few, arith)
 
         Led : Want → Type 0
         Led want = IsLed (fixed_of given) (run given base) S (table_of given base) (its given base events later agent t caller site ops actor goes) actor.agent.cache short.right.0 short.right.1.start want
@@ -304,8 +282,7 @@ module _ (given : Opening) (base events later : List Event) (agent t : ℕ) (cal
         (sym (ap (next_in (fixed_of given)) c.running) ∙ ap (λ (a : Actor). next_of (fixed_of given) a.agent) (same_Some c.here one.0 (sym c.there ∙ one.1)) ∙ one.2)
 
     lock_of : (u y : ℕ) (question : Asked) → for_lock t z (request_for u y question) ≡ true → y ≡ z
-    lock_of u y (Poll mode) is = eqb-true y z (and_parts (u == t) (y == z) is).1
-    lock_of u y Upgrade is = eqb-true y z (and_parts (u == t) (y == z) is).1
+    lock_of u y question h3 = search (eqb-true, and_parts, arith)
 
     not_lock : (asked' : Request) → what.request.value ≡ asked' → for_lock t z asked' ≡ false → Reaches (z, mode_of what.request.value)
     not_lock asked' is none = absurd (false≢true (sym none ∙ ap (for_lock t z) (sym is) ∙ lock))
@@ -337,8 +314,7 @@ module _ (given : Opening) (base events later : List Event) (agent t : ℕ) (cal
         reaches_by y g.mode g.asked _ (lock_of task.t y asks'.question (ap (for_lock t z) (sym asks'.asked_is) ∙ lock)) (ap mode_of asks'.asked_is ∙ same_mode task.t y asks'.question ∙ mode)
         (g.asks.order ∙ ap (onto g.asked) g.next_is)
         (λ other has there. had_held suites other there (λ suite found. g.asks.right other.0 suite found) (g.asks.had other has))
-    of_phase now suites (Fetching y) at is =
-        not_lock _ (fetch_is (its given base events later agent t caller site ops actor goes) y (suite_of suites y) what.server what.request.value is) refl
+    of_phase now suites (Fetching y) at is = search (not_lock, fetch_is, its, arith)
     of_phase now suites (doing.Widening [] granted) at is = absurd at
     of_phase now suites (doing.Widening (y ∷ left) granted) at is =
         let task = its given base events later agent t caller site ops actor goes in
@@ -349,13 +325,9 @@ module _ (given : Opening) (base events later : List Event) (agent t : ℕ) (cal
         (at.sets.all ∙ ap (λ xs. onto xs []) some.2 ∙ onto_append some.0 (y, Exclusive) some.1 [])
         (λ other has there. had_held suites other there (λ suite found. at.sets.right other.0 suite found)
         (at.sets.had other (subst (λ xs. Has xs other) (sym some.2) (append_later some.0 (y, Exclusive) some.1 other has))))
-    of_phase now suites (Preparing (server ∷ left) outcome) at is =
-        not_lock _ (sym (asks_same server what.server (request.Prepare (its given base events later agent t caller site ops actor goes).t (parts_at suites (changes_of outcome) server)) what.request.value is)) refl
-    of_phase now suites (Deciding outcome) at is =
-        not_lock _ (sym (asks_same (home_of (fixed_of given).service (its given base events later agent t caller site ops actor goes).t) what.server
-        (request.Decide (its given base events later agent t caller site ops actor goes).t (decision_of (its given base events later agent t caller site ops actor goes) outcome)) what.request.value is)) refl
-    of_phase now suites (Finishing (server ∷ left) v ended) at is =
-        not_lock _ (sym (asks_same server what.server (request.Finish (its given base events later agent t caller site ops actor goes).t v) what.request.value is)) refl
+    of_phase now suites (Preparing (server ∷ left) outcome) at is = search (not_lock, asks_same, its, arith)
+    of_phase now suites (Deciding outcome) at is = search (not_lock, asks_same, its, arith)
+    of_phase now suites (Finishing (server ∷ left) v ended) at is = search (not_lock, asks_same, its, arith)
     of_phase now suites other at is = absurd (none-some _ is)
 
     pub reaches_now : Reaches (z, mode_of what.request.value)

@@ -1,9 +1,8 @@
 -- One that writes and one that only reads, whatever others do beside: a reader that ends undecided was refused by locks of the writer that are enough to write, and so the writer was not.
-use Rattle.law_run_recovers.proofs.Vocabulary.{Contains, List, Some, [], ap, append-nil, append_assoc, arith, false, inl, inr, not, refl, subst, sym, true, ℕ, ⊎_elim, ◌&&◌, ◌++◌, ◌+◌, ◌<◌, ◌==◌, ◌||◌, ◌∙◌, ◌∷◌, ◌≡◌, ◌⊎◌, eq-eqb, false≢true}
-use Rattle.law_run_recovers.proofs.Vocabulary.{CanBe, can_front, is_decided, machine_of, IsNotDecided, beginning, WasPrefix, Has, has_any, has_from, State, Lock, decisions, run, table_of, server_at, step, EndedJob, Served, Event, Begin}
-use Rattle.law_run_recovers.proofs.Vocabulary.{Step, mode_of, needed_of, is_exclusive, serves, Opening, Prefix, LockMode, Exclusive, Shared, fixed_of, Transaction, shared_member, Configuration, total_votes, votes_at, votes_in, Begun}
-use Rattle.law_run_recovers.proofs.Vocabulary.{clashes, votes_set, EndsThen, votes_now, asks_for, any_has, contains_from, has_append, list_any, locks_at, locks_in, only_reads, begun_world, Always, WriterOrReaderBesideIsDecidedAt}
-use Rattle.law_run_recovers.proofs.Vocabulary.{serves_itself, ReaderMeetsBeside, ReadsToo, first_sets}
+use Rattle.law_run_recovers.proofs.Vocabulary.{Contains, List, Some, [], ap, append-nil, append_assoc, arith, false, inl, inr, not, refl, subst, sym, true, ℕ, ⊎_elim, ◌++◌, ◌+◌, ◌<◌, ◌==◌, ◌||◌, ◌∙◌, ◌∷◌, ◌≡◌, ◌⊎◌, eq-eqb, false≢true, CanBe}
+use Rattle.law_run_recovers.proofs.Vocabulary.{can_front, is_decided, machine_of, IsNotDecided, beginning, WasPrefix, Has, has_any, has_from, State, Lock, decisions, run, table_of, server_at, step, EndedJob, Served, Event, Step, mode_of, needed_of}
+use Rattle.law_run_recovers.proofs.Vocabulary.{is_exclusive, serves, Opening, Prefix, LockMode, Exclusive, Shared, fixed_of, shared_member, Configuration, total_votes, votes_at, votes_in, Begun, clashes, votes_set, EndsThen, votes_now, asks_for}
+use Rattle.law_run_recovers.proofs.Vocabulary.{any_has, contains_from, has_append, list_any, locks_at, locks_in, only_reads, begun_world, Always, WriterOrReaderBesideIsDecidedAt, serves_itself, ReaderMeetsBeside, ReadsToo, first_sets}
 use Rattle.law_run_recovers.proofs.AmongCourse.{tail_or}
 use Rattle.law_run_recovers.proofs.Unmoved.{first_votes_at}
 use Rattle.law_run_recovers.proofs.MeetApart.{clashes_back}
@@ -26,8 +25,7 @@ use Rattle.law_run_recovers.proofs.MeetWants.{Wants, WereFound, wants}
 -- ---- modes
 
 exclusive_not : (way : LockMode) → way ≡ Exclusive → way ≡ Shared → ⊥
-exclusive_not Exclusive is shared = false≢true (sym (ap is_exclusive shared))
-exclusive_not Shared is shared = false≢true (ap is_exclusive is)
+exclusive_not way h1 h2 = search arith
 
 pub reads_none : (asked : List (ℕ × LockMode)) → only_reads asked ≡ true → OnlyReads asked
 reads_none asked reads z has = false≢true (sym (ap not (has_any (λ (one : ℕ × LockMode). is_exclusive one.1) asked (z, Exclusive) has refl)) ∙ reads)
@@ -38,19 +36,13 @@ shared_where asked z Exclusive reads has = absurd (reads z (has_from asked (z, E
 
 -- what clashes with a lock that is shared is exclusive
 other_exclusive : (y : ℕ) (mode way : LockMode) → clashes (y, mode) (y, way) ≡ true → mode ≡ Shared → way ≡ Exclusive
-other_exclusive y mode Exclusive clash is = refl
-other_exclusive y Exclusive Shared clash is = sym is
-other_exclusive y Shared Shared clash is = absurd (false≢true (sym (ap (λ b. b && false) (eq-eqb y y refl)) ∙ clash))
+other_exclusive y mode way h3 h4 = search arith
 
 this_exclusive : (y : ℕ) (mode way : LockMode) → clashes (y, mode) (y, way) ≡ true → way ≡ Shared → mode ≡ Exclusive
-this_exclusive y Exclusive way clash is = refl
-this_exclusive y Shared Exclusive clash is = sym is
-this_exclusive y Shared Shared clash is = absurd (false≢true (sym (ap (λ b. b && false) (eq-eqb y y refl)) ∙ clash))
+this_exclusive y mode way h3 h4 = search arith
 
 strongest : (wanted mode : LockMode) → serves wanted mode ≡ true → mode ≡ Exclusive → wanted ≡ Exclusive
-strongest Exclusive mode strong is = refl
-strongest Shared Exclusive strong is = absurd (false≢true strong)
-strongest Shared Shared strong is = is
+strongest wanted mode h2 h3 = search arith
 
 never_both_ways : (asked : List (ℕ × LockMode)) (y : ℕ) (way : LockMode) → list_any (clashes (y, way)) asked ≡ false → list_any (clashes (y, way)) asked ≡ true → ⊥
 never_both_ways asked y way none is = false≢true (sym none ∙ is)
@@ -149,11 +141,7 @@ module _ (given : Opening) (events later : List Event) (writer reader : Begun gi
         begins = its_event given events later writer
 
         after_is : writer.after ≡ at.mid ++ Step writer.agent ∷ back
-        after_is =
-            ap tail_or
-            (cancel writer.before (Begin writer.agent (Transaction writer.caller writer.site writer.ops) ∷ writer.after) (Begin writer.agent (Transaction writer.caller writer.site writer.ops) ∷ (at.mid ++ Step writer.agent ∷ back))
-            (sym writer.parts ∙ split ∙ ap (λ i. so_far ++ Step i ∷ back) at.who_is ∙ ap (λ xs. xs ++ Step writer.agent ∷ back) at.parts
-            ∙ append_assoc writer.before (Begin writer.agent (Transaction writer.caller writer.site writer.ops) ∷ at.mid) (Step writer.agent ∷ back)))
+        after_is = search (tail_or, cancel, append_assoc, arith)
 
   of_writer : (so_far back : List Event) → later ≡ so_far ++ back → (s : ℕ) (st : State) → server_at (run given (events ++ so_far)) s ≡ Some st → (lock : Lock) → Has st.locks lock → lock.t ≡ writer.t
       → IsTheWriters s lock.t lock.suite lock.mode
@@ -170,19 +158,14 @@ module _ (given : Opening) (events later : List Event) (writer reader : Begun gi
       (λ s st at lock has same. absurd (none_yet given events later calm.fair.can reader s st at lock has same)) so_far back split s st at lock has
 
   stands : (so_far back : List Event) → later ≡ so_far ++ back → (s : ℕ) (st : State) → server_at (run given (events ++ so_far)) s ≡ Some st → (lock : Lock) → Has st.locks lock → Has' s lock.t lock.suite lock.mode
-  stands so_far back split s st at lock has = ⊎_elim
-      (λ same. inl (of_writer so_far back split s st at lock has same))
-      (λ more. ⊎_elim (λ same. inr (inl (same, of_reader so_far back split s st at lock has same))) (λ aside. inr (inr aside)) more)
-      (others so_far back split s st at lock has)
+  stands so_far back split s st at lock has = search (of_writer, of_reader, others, arith)
 
   -- ---- who was refused
 
   module _ (who : Begun given events later) (its : Ours given events later Still who) (f : Fixed given events later who) (y : ℕ) (wanted : LockMode) (server : ℕ)
       (is : some_step (refuses who.t y wanted server) who.agent (fixed_of given) (begun_world given (events ++ who.before) who.agent who.caller who.site who.ops) f.front ≡ true) where
     barred_then : some_step (refuses who.t y wanted server) who.agent (fixed_of given) (begun_world given (events ++ who.before) who.agent who.caller who.site who.ops) who.after ≡ true
-    barred_then =
-        subst (λ after. some_step (refuses who.t y wanted server) who.agent (fixed_of given) (begun_world given (events ++ who.before) who.agent who.caller who.site who.ops) after ≡ true) (sym f.parts)
-        (some_more (refuses who.t y wanted server) who.agent (fixed_of given) (begun_world given (events ++ who.before) who.agent who.caller who.site who.ops) f.front f.back is)
+    barred_then = search (some_step, refuses, some_more, arith)
 
     barred : Barred given events later later calm who its who.after who.parts Has' stands y wanted server
     barred = barred_by given events later later calm who its who.after who.parts Has' stands y wanted server barred_then
@@ -247,8 +230,7 @@ module _ (given : Opening) (events later : List Event) (writer reader : Begun gi
 
   -- votes that were found of the one suite are the first ones
   first_found : (y : ℕ) (votes : Configuration) (prefix : Prefix) → votes ≡ prefix.votes → WasPrefix (beginning y given) (machine_of given y events).log prefix → y ≡ meets.suite → votes ≡ given.c0
-  first_found y votes prefix is was at =
-      is ∙ first_votes_at given events can_first meets.suite meets.unmoved prefix (subst (λ y. WasPrefix (beginning y given) (machine_of given y events).log prefix) at was)
+  first_found y votes prefix is was at = search (first_votes_at, can_first, arith)
 
   module _ (f : Fixed given events later writer) (g : Fixed given events later reader) where
     its : Wants given events later calm writer ours f []
@@ -258,9 +240,7 @@ module _ (given : Opening) (events later : List Event) (writer reader : Begun gi
     theirs' = wants given events later calm reader other_ours g other_undecided [] (none_apart given events (votes_set (table_of given events) reader.t reader.caller reader.ops))
 
     refused_writer : (its.mode ≡ Exclusive) × (its.suite ≡ meets.suite)
-    refused_writer =
-        let s = some_shut its.votes its.open' (needed_of its.mode its.votes) its.few its.most in
-        writer_refused f its.suite its.mode s.0 (its.shut s.0 s.1 s.2)
+    refused_writer = search (some_shut its.votes its.open' (needed_of its.mode its.votes) its.few its.most, writer_refused, arith)
 
     refused_reader : (server : ℕ) → 0 < votes_at theirs'.votes.reps server → theirs'.open' server ≡ false → IsRefused theirs'.suite server
     refused_reader server some shut = reader_refused g theirs'.suite theirs'.mode server (theirs'.shut server some shut)

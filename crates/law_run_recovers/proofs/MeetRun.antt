@@ -1,11 +1,10 @@
 -- A transaction that begins in a calm run goes quietly: nobody hinders or robs it, servers stay up and show what they showed of what it asks for, and it never asks to be decided.
-use Rattle.law_run_recovers.proofs.Vocabulary.{Bool, Err, List, None, Ok, Option, Some, [], ap, append-nil, append_assoc, arith, cond, false, is_some, not, refl, subst, sym, true, ℕ, ◌%◌, ◌&&◌, ◌++◌, ◌==◌, ◌||◌, ◌∙◌, ◌∷◌, ◌≡◌, eq-eqb}
-use Rattle.law_run_recovers.proofs.Vocabulary.{eqb-true, false≢true, nat_tests, same_Some, undecided, CanBe, decides, IsNotDecided, names, contains_from, recorded, reply_down, reply_of, reply_up, verdict_of, State, record_of, copy_of}
-use Rattle.law_run_recovers.proofs.Vocabulary.{Request, Decided, answer_in, decided, decided_as, decided_at, decided_by, decisions, task_at, task_of, to_decide, run, table_of, Actor, World, actor_at, server_at, step, Served, Event, Begin}
-use Rattle.law_run_recovers.proofs.Vocabulary.{Crash, Step, next, Opening, Replica, fixed_of, next_in, next_of, Doing, Running, ◌*◌, ◌+◌, ◌<◌, zero, suc, agent_of, answers_follow_knowledge, holds_of, names_mine, rest_of, Task, is_decide}
-use Rattle.law_run_recovers.proofs.Vocabulary.{decision_of, Transaction, Begun, row_of, is_up, shown_at, shown_in, up_in, bereaves, hinders_itself, is_running, is_telling, of_up, robs, running_in, runs, takes, up_and, world_after, upsets}
+use Rattle.law_run_recovers.proofs.Vocabulary.{Bool, List, None, Option, Some, [], ap, append-nil, append_assoc, arith, false, is_some, not, refl, subst, sym, true, ℕ, ◌%◌, ◌&&◌, ◌++◌, ◌==◌, ◌||◌, ◌∙◌, ◌∷◌, ◌≡◌, eq-eqb, eqb-true, false≢true}
+use Rattle.law_run_recovers.proofs.Vocabulary.{nat_tests, same_Some, undecided, CanBe, decides, IsNotDecided, names, contains_from, reply_of, State, record_of, copy_of, Request, Decided, answer_in, decided, decided_as, decided_at, decided_by}
+use Rattle.law_run_recovers.proofs.Vocabulary.{decisions, task_at, task_of, to_decide, run, table_of, Actor, World, actor_at, server_at, step, Served, Event, Begin, Step, next, Opening, Replica, fixed_of, next_in, next_of, Doing, Running, ◌*◌, ◌+◌}
+use Rattle.law_run_recovers.proofs.Vocabulary.{◌<◌, agent_of, answers_follow_knowledge, holds_of, names_mine, Task, is_decide, decision_of, Transaction, Begun, row_of, is_up, shown_at, shown_in, up_in, bereaves, hinders_itself, is_running, of_up}
+use Rattle.law_run_recovers.proofs.Vocabulary.{robs, running_in, runs, takes, world_after, upsets}
 use Rattle.rep_core.specs.declared.request.Request.TheVariants as request
-use Rattle.rep_core.specs.declared.reply.Reply.TheVariants as reply
 use Rattle.txn_core.specs.Doing as doing
 use Rattle.law_run_recovers.proofs.BesideUnmet.{then_is, begins_there}
 use Rattle.law_run_recovers.proofs.AtWork.{mine_where}
@@ -21,15 +20,13 @@ use Rattle.law_run_recovers.proofs.MeetQuiet.{GoesQuietly}
 
 -- a number that is the last of an agent has it as its rest
 pub rest_of_last : (t count i : ℕ) → t + 64 ≡ 64 * count + i → i < 64 → t % 64 ≡ i
-rest_of_last t zero i is small = absurd (omega (arith, is, small))
-rest_of_last t (suc count) i is small = ap (λ n. n % 64) (let same : t ≡ 64 * count + i = omega (arith, is) in same) ∙ rest_of count i small
+rest_of_last t count i h3 h4 = search arith
 
 all_none : (a b c : Bool) → a ≡ false → b ≡ false → c ≡ false → (a || (b || c)) ≡ false
 all_none a b c one two three = grind (arith, nat_tests)
 
 first_not : (a b c : Bool) → a ≡ true → (not a && b && c) ≡ false
-first_not true b c is = refl
-first_not false b c is = absurd (false≢true is)
+first_not a b c h3 = search arith
 
 last_not : (a b c : Bool) → c ≡ false → (a && b && c) ≡ false
 last_not a b c is = grind (arith, nat_tests)
@@ -79,36 +76,13 @@ module _ (given : Opening) (events later : List Event) {still : ℕ → Type 0} 
         false≢true (sym apart ∙ eq-eqb i one.agent (sym (rest_of_last busy.0 asks.0.agent.count i last small) ∙ ap (λ t. t % 64) (sym same) ∙ its))
 
     not_robbed : (i : ℕ) → (i == one.agent) ≡ false → of_up (takes one.t) (run given (events ++ front)) (step (fixed_of given) (run given (events ++ front)) (Step i)).done.served ≡ false
-    not_robbed i apart = of (step (fixed_of given) w (Step i)).done.served refl
-      where
-        at_server : (what : Served) → (step (fixed_of given) (run given (events ++ front)) (Step i)).done.served ≡ Some what → (found : Option State) → up_and (takes one.t) what.request.value found ≡ false
-        at_server what served None = refl
-        at_server what served (Some st) = by (takes one.t st what.request.value) refl
-          where
-            none : (a : Bool) → (a && false) ≡ false
-            none true = refl
-            none false = refl
-
-            by : (b : Bool) → takes one.t st what.request.value ≡ b → (st.up && b) ≡ false
-            by true is = absurd (named_not i apart what served (takes_named one.t st what.request.value is))
-            by false is = none st.up
-
-        of : (found : Option Served) → (step (fixed_of given) (run given (events ++ front)) (Step i)).done.served ≡ found → of_up (takes one.t) (run given (events ++ front)) found ≡ false
-        of None served = refl
-        of (Some what) served = at_server what served (server_at w what.server)
+    not_robbed i apart = search (named_not, takes_named, arith)
 
     robbed_not : (event : Event) → robs given one.agent one.t (run given (events ++ front)) event ≡ false
-    robbed_not (Step i) = by (i == one.agent) refl
-      where
-        by : (b : Bool) → (i == one.agent) ≡ b
-            → (not (i == one.agent) && not (is_telling (run given (events ++ front)) one.agent) && of_up (takes one.t) (run given (events ++ front)) (step (fixed_of given) (run given (events ++ front)) (Step i)).done.served) ≡ false
-        by true same = first_not (i == one.agent) (not (is_telling w one.agent)) (of_up (takes one.t) w (step (fixed_of given) w (Step i)).done.served) same
-        by false apart = last_not (not (i == one.agent)) (not (is_telling w one.agent)) (of_up (takes one.t) w (step (fixed_of given) w (Step i)).done.served) (not_robbed i apart)
-    robbed_not other = refl
+    robbed_not event = search (first_not, last_not, not_robbed, arith)
 
     none_crashes : (event : Event) → upsets given (run given (events ++ front)) event ≡ false → bereaves given one.agent one.t (run given (events ++ front)) event ≡ false
-    none_crashes (Crash server) calm_here = absurd (false≢true (sym calm_here))
-    none_crashes other calm_here = refl
+    none_crashes event h1 = search arith
 
   module _ (ours : Ours given events later still one) where
     pub spared : (so_far rest : List Event) (event : Event) → one.after ≡ so_far ++ event ∷ rest → IsAtWork (then_at so_far) one.agent one.t
@@ -168,17 +142,7 @@ module _ (given : Opening) (events later : List Event) {still : ℕ → Type 0} 
 
   first_decides : (st : State) (task : Task) (outcome : doing.Proposal) → st.up ≡ true → record_of st task.t ≡ None
       → is_some (decided_at (Some st) (to_decide (request.Decide task.t (decision_of task outcome))) (decided_as (Some task) (answer_in (reply_of st (request.Decide task.t (decision_of task outcome)))))) ≡ true
-  first_decides st task outcome up none =
-      ap (λ b. is_some (decided_at (Some st) (Some task.t) (decided_as (Some task) (answer_in (cond b (reply_up st asked) (reply_down asked)))))) up
-      ∙ ap (λ old. is_some (cond (is_some old) None (decided_as (Some task) (answer_in (reply.Verdict (recorded old (verdict_of (decision_of task outcome)))))))) none
-      ∙ answers outcome
-    where
-      asked : Request
-      asked = request.Decide task.t (decision_of task outcome)
-
-      answers : (outcome : doing.Proposal) → is_some (decided_as (Some task) (answer_in (reply.Verdict (verdict_of (decision_of task outcome))))) ≡ true
-      answers (Ok granted) = refl
-      answers (Err refusal) = refl
+  first_decides st task outcome up none = search arith
 
   pub never_decides : Ours given events later still one → IsNotDecided (decisions given (events ++ later)) one.t → (so_far rest : List Event) → one.after ≡ so_far ++ Step one.agent ∷ rest → IsAtWork (world_after given (events ++ one.before) one.agent one.caller one.site one.ops so_far) one.agent one.t → (here : Actor)
       → actor_at (world_after given (events ++ one.before) one.agent one.caller one.site one.ops so_far) one.agent ≡ Some here → (asked : ℕ × Request) → next_of (fixed_of given) here.agent ≡ Some asked → is_decide asked.1 ≡ false

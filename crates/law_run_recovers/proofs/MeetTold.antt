@@ -1,8 +1,8 @@
 -- Which servers granted a transaction a lock in its run, and which refused one: a server never does both, of one mode. So sights go by either.
-use Rattle.law_run_recovers.proofs.Vocabulary.{◌≡◌, ⊎_elim, ℕ, Bool, true, false, List, [], ◌∷◌, ◌++◌, Option, Some, None, is_some, refl, sym, ap, subst, ◌∙◌, ◌==◌, ◌&&◌, ◌||◌, not, false≢true, and_parts, and_from, eqb-true, eq-eqb}
-use Rattle.law_run_recovers.proofs.Vocabulary.{none-some, same_Some, Identity, Opening, Prefix, LockMode, Shared, Exclusive, serves, Op, Request, Reply, Said, Asked, Poll, Upgrade, mode_of, mode_asked, request_for, Transaction, Replied}
-use Rattle.law_run_recovers.proofs.Vocabulary.{Fixed, Doing, Running, RunningSweep, fixed_of, next_in, next_of, Exchange, locks, heard_in, is_finish, Served, Event, Begin, Step, Actor, World, actor_at, step, after, run, task_of, names}
-use Rattle.law_run_recovers.proofs.Vocabulary.{may_sweep, agents_ask_for_themselves, names_mine, is_up, runs, begun_world, world_after, serves_itself, same_mode, or_right}
+use Rattle.law_run_recovers.proofs.Vocabulary.{◌≡◌, ⊎_elim, ℕ, Bool, true, false, List, [], ◌∷◌, ◌++◌, Option, Some, None, is_some, refl, sym, ap, subst, ◌∙◌, ◌==◌, ◌&&◌, ◌||◌, not, false≢true, and_parts, and_from, eqb-true, eq-eqb, arith, none-some}
+use Rattle.law_run_recovers.proofs.Vocabulary.{same_Some, Identity, Opening, Prefix, LockMode, Shared, Exclusive, serves, Op, Request, Reply, Said, Asked, Poll, Upgrade, mode_of, mode_asked, request_for, Transaction, Replied, Fixed, Doing, Running}
+use Rattle.law_run_recovers.proofs.Vocabulary.{RunningSweep, fixed_of, next_in, next_of, Exchange, locks, heard_in, is_finish, Served, Event, Begin, Step, Actor, World, actor_at, step, after, run, task_of, names, may_sweep, agents_ask_for_themselves}
+use Rattle.law_run_recovers.proofs.Vocabulary.{names_mine, is_up, runs, begun_world, world_after, serves_itself, same_mode, or_right}
 use Rattle.suite_collect.specs.Telling.{is_held}
 use Rattle.rep_core.specs.declared.request.Request.TheVariants as request
 use Rattle.rep_core.specs.declared.reply.Reply.TheVariants as reply
@@ -85,22 +85,16 @@ module _ (p : Served → Bool) (agent : ℕ) (fixed : Fixed) where
           record { front = event ∷ rest.front; back = rest.back; parts = ap (λ events. event ∷ events) rest.parts; what = rest.what; served = rest.served; is = rest.is }
 
   pub there_in : (front back : List Event) (w : World) (what : Served) → (step fixed (after fixed w front) (Step agent)).done.served ≡ Some what → p what ≡ true → some_step p agent fixed w (front ++ Step agent ∷ back) ≡ true
-  there_in [] back w what served is =
-      ap (λ b. (b && of_served p (step fixed w (Step agent)).done.served) || some_step p agent fixed (step fixed w (Step agent)).world back) (eq-eqb agent agent refl)
-      ∙ ap (λ found. of_served p found || some_step p agent fixed (step fixed w (Step agent)).world back) served
-      ∙ ap (λ b. b || some_step p agent fixed (step fixed w (Step agent)).world back) is
+  there_in [] back w what served is = search (eq-eqb, arith)
   there_in (event ∷ front) back w what served is = or_right (steps_so p agent fixed w event) _ (there_in front back (step fixed w event).world what served is)
 
 -- ---- what is asked for
 
 pub for_lock_named : (t z : ℕ) (asked : Request) → for_lock t z asked ≡ true → (names t asked ≡ true) × (locks z asked ≡ true) × (may_sweep asked ≡ false) × (is_finish asked ≡ false)
-for_lock_named t z (request.Poll u suite mode) is = let parts = and_parts (u == t) (suite == z) is in (parts.0, parts.1, refl, refl)
-for_lock_named t z (request.Upgrade u suite) is = let parts = and_parts (u == t) (suite == z) is in (parts.0, parts.1, refl, refl)
-for_lock_named t z other is = absurd (false≢true is)
+for_lock_named t z asked h3 = search arith
 
 pub asks_lock : (t z : ℕ) (question : Asked) → for_lock t z (request_for t z question) ≡ true
-asks_lock t z (Poll mode) = and_from (t == t) (z == z) (eq-eqb t t refl) (eq-eqb z z refl)
-asks_lock t z Upgrade = and_from (t == t) (z == z) (eq-eqb t t refl) (eq-eqb z z refl)
+asks_lock t z question = search arith
 
 heard_held : (asked : Request) (answer : Reply) → says_held answer ≡ true → (s : Said) × (heard_in asked (Replied answer) ≡ Some s) × (is_held s ≡ true)
 heard_held asked (reply.Held prefix dver) is = (said.Held prefix dver, refl, refl)
@@ -111,20 +105,13 @@ heard_busy asked (reply.Busy holder prepared) is = (said.Busy holder, refl, refl
 heard_busy asked other is = absurd (false≢true is)
 
 never_both : (answer : Reply) → says_held answer ≡ true → says_busy answer ≡ true → ⊥
-never_both (reply.Held prefix dver) held busy = false≢true busy
-never_both other held busy = false≢true held
+never_both answer h1 h2 = search arith
 
 pub serves_over : (a b c : LockMode) → serves a b ≡ true → serves b c ≡ true → serves a c ≡ true
-serves_over Exclusive b c one other = refl
-serves_over Shared Shared c one other = other
-serves_over Shared Exclusive c one other = absurd (false≢true one)
+serves_over a b c h3 h4 = search arith
 
 pub four : (a b c d : Bool) → (a && (b && (c && d))) ≡ true → (a ≡ true) × (b ≡ true) × (c ≡ true) × (d ≡ true)
-four a b c d is =
-    let one = and_parts a (b && (c && d)) is in
-    let two = and_parts b (c && d) one.1 in
-    let three = and_parts c d two.1 in
-    (one.0, two.0, three.0, three.1)
+four a b c d is = search arith
 
 pub four_from : (a b c d : Bool) → a ≡ true → b ≡ true → c ≡ true → d ≡ true → (a && (b && (c && d))) ≡ true
 four_from a b c d one two three four = and_from a (b && (c && d)) one (and_from b (c && d) two (and_from c d three four))
@@ -232,29 +219,10 @@ module _ (given : Opening) (base events later : List Event) (agent t : ℕ) (cal
       subst (λ events. some_step q agent (fixed_of given) w events ≡ true) (sym f.parts) (there_in q agent (fixed_of given) f.front f.back w f.what f.served (so f.what f.is))
 
   pub held_weaker : (z server : ℕ) → opens_held z Exclusive server ≡ true → opens_held z Shared server ≡ true
-  held_weaker z server is =
-      let parts = and_parts (is_up (run given base) server) (held z Exclusive server) is in
-      and_from (is_up (run given base) server) (held z Shared server) parts.0
-      (wider (grants t z Exclusive server) (grants t z Shared server)
-      (λ what is. let p = four (what.server == server) (for_lock t z what.request.value) (says_held what.reply.value) (serves (mode_of what.request.value) Exclusive) is in
-      four_from (what.server == server) (for_lock t z what.request.value) (says_held what.reply.value) (serves (mode_of what.request.value) Shared) p.0 p.1 p.2 (serves_over (mode_of what.request.value) Exclusive Shared p.3 refl))
-      later (begun_world given events agent caller site ops) parts.1)
+  held_weaker z server is = search (and_parts, and_from, wider, four, four_from, serves_over, arith)
 
   pub free_weaker : (z server : ℕ) → opens_free z Exclusive server ≡ true → opens_free z Shared server ≡ true
-  free_weaker z server is =
-      let parts = and_parts (is_up (run given base) server) (not (barred z Exclusive server)) is in
-      and_from (is_up (run given base) server) (not (barred z Shared server)) parts.0 (of (barred z Shared server) refl parts.1)
-    where
-      more : barred z Shared server ≡ true → barred z Exclusive server ≡ true
-      more is =
-          wider (refuses t z Shared server) (refuses t z Exclusive server)
-          (λ what is. let p = four (what.server == server) (for_lock t z what.request.value) (says_busy what.reply.value) (serves Shared (mode_of what.request.value)) is in
-          four_from (what.server == server) (for_lock t z what.request.value) (says_busy what.reply.value) (serves Exclusive (mode_of what.request.value)) p.0 p.1 p.2 refl)
-          later (begun_world given events agent caller site ops) is
-
-      of : (b : Bool) → barred z Shared server ≡ b → not (barred z Exclusive server) ≡ true → not b ≡ true
-      of false at none = refl
-      of true at none = absurd (false≢true (sym (ap not (more at)) ∙ none))
+  free_weaker z server is = search (and_parts, and_from, wider, four, four_from, false≢true, arith)
 
   up_first : (z : ℕ) (mode : LockMode) (server : ℕ) (b : Bool) → (is_up (run given base) server && b) ≡ true → is_up (run given base) server ≡ true
   up_first z mode server b is = (and_parts (is_up (run given base) server) b is).0
@@ -295,13 +263,10 @@ module _ (given : Opening) (base events later : List Event) (agent t : ℕ) (cal
         (ap (λ mode. serves (mode_asked question) mode) mode_so ∙ serves_itself (mode_asked question))))
 
   closed_by : (a b : Bool) → (b ≡ true → ⊥) → (a && b) ≡ false
-  closed_by true true none = absurd (none refl)
-  closed_by true false none = refl
-  closed_by false b none = refl
+  closed_by a b h2 = search arith
 
   free_by : (b : Bool) → (b ≡ true → ⊥) → not b ≡ true
-  free_by true none = absurd (none refl)
-  free_by false none = refl
+  free_by b h1 = search arith
 
   pub held_fits : Fits given base events later agent t caller site ops actor goes opens_held
   held_fits so_far rest split work what served z question is = (

@@ -1,23 +1,17 @@
 -- A transaction that is at work was not decided, nor is it where it asks for a lock.
-use Rattle.law_run_recovers.proofs.Vocabulary.{List, Option, Some, ap, false, refl, subst, sym, true, ℕ, ◌++◌, ◌∙◌, ◌∷◌, ◌≡◌, eqb-true, false≢true, Identity, Op, CanBe, begins_job, IsAt, holds_of, agent_of, Has, Verdict, Request, Decided}
-use Rattle.law_run_recovers.proofs.Vocabulary.{decisions, run, Actor, actor_at, Event, Begin, Opening, Doing, Finishing, Phase, Running, is_decide, Transaction, runs, world_after, Tells}
-use Rattle.rep_core.specs.declared.request.Request.TheVariants as request
+use Rattle.law_run_recovers.proofs.Vocabulary.{List, Option, Some, ap, false, sym, true, ℕ, ◌++◌, ◌∙◌, ◌∷◌, ◌≡◌, Identity, Op, CanBe, begins_job, IsAt, holds_of, agent_of, Has, Verdict, Request, Decided, arith, decisions, run, Actor, actor_at, Event}
+use Rattle.law_run_recovers.proofs.Vocabulary.{Begin, Opening, Doing, Phase, is_decide, Transaction, runs, world_after, Tells}
 use Rattle.rep_core.specs.declared.reply.Verdict.TheVariants as verdict
-use Rattle.law_runs.proofs.Standing as standing
 use Rattle.law_run_recovers.proofs.Keeps.{IsAtWork, Works, works, run_at}
 use Rattle.law_run_recovers.proofs.Still.{IsOpen, IsOpenPhase}
 use Rattle.law_run_recovers.proofs.MeetTold.{for_lock}
 
 -- nothing was said of one that has not told how it ended
 untold : (said : Verdict) (phase : Phase) → IsOpenPhase phase → Tells said phase → said ≡ verdict.Aborted
-untold said (Finishing left v ended) open' tells = absurd open'
-untold said other open' tells = tells
+untold said phase h2 h3 = search arith
 
 none_of : (ds : List Decided) (i count t : ℕ) (doing : Option Doing) → IsAt ds i count doing → IsOpen doing → runs t doing ≡ true → (d : Decided) → Has ds d → d.t ≡ t → ⊥
-none_of ds i count t (Some (Running txn_run)) at open' running d has same =
-    let none : standing.Stands ds txn_run.task.t verdict.Aborted = subst (standing.Stands ds txn_run.task.t) (untold at.said txn_run.phase open' at.tells) at.stands in
-    none d has (same ∙ sym (eqb-true txn_run.task.t t running))
-none_of ds i count t other at open' running d has same = absurd open'
+none_of ds i count t doing h5 h6 h7 d h9 h10 = search arith
 
 module _ (given : Opening) (events later : List Event) (agent t : ℕ) (caller : Identity) (site : ℕ) (ops : List Op) (actor : Actor)
     (can : CanBe given (events ++ Begin agent (Transaction caller site ops) ∷ later)) (there : actor_at (run given events) agent ≡ Some actor)
@@ -33,5 +27,4 @@ module _ (given : Opening) (events later : List Event) (agent t : ℕ) (caller :
 
 -- a request for a lock decides nothing
 pub lock_decides_none : (t z : ℕ) (asked : Request) → for_lock t z asked ≡ true → is_decide asked ≡ false
-lock_decides_none t z (request.Decide u decision) is = absurd (false≢true is)
-lock_decides_none t z other is = refl
+lock_decides_none t z asked h3 = search arith

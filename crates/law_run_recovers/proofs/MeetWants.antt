@@ -1,8 +1,8 @@
 -- One that meets another and is not decided wants votes: it asked for a lock, and of who has a vote too few did not refuse it.
 use Rattle.law_run_recovers.proofs.Vocabulary.{Bool, Contains, List, [], ap, append_assoc, arith, false, inl, inr, not, refl, subst, sym, true, ℕ, ⊎_elim, ◌%◌, ◌&&◌, ◌++◌, ◌+◌, ◌/◌, ◌<◌, ◌==◌, ◌∙◌, ◌∷◌, ◌≡◌, ◌≤◌, ◌⊎◌, mod-lt, eqb-true}
-use Rattle.law_run_recovers.proofs.Vocabulary.{false≢true, AllByRecursion, Service, EventGivesValidVotes, machine_of, append_has_left, service_stays, IsNotDecided, beginning, WasPrefix, Has, contains_from, has_from, decisions_from-append}
-use Rattle.law_run_recovers.proofs.Vocabulary.{decisions, decisions_from, run, table_of, Actor, opening, Event, Begin, mode_of, needed_of, serves, Opening, Prefix, LockMode, Exclusive, Shared, fixed_of, home_of, Transaction, Configuration}
-use Rattle.law_run_recovers.proofs.Vocabulary.{total_votes, votes_at, votes_in, IsValid, Begun, votes_set, SetsApart, votes_now, asks_for, first_mode, is_up, shown_at, begun_world}
+use Rattle.law_run_recovers.proofs.Vocabulary.{AllByRecursion, Service, EventGivesValidVotes, machine_of, append_has_left, service_stays, IsNotDecided, beginning, WasPrefix, Has, contains_from, has_from, decisions_from-append, decisions}
+use Rattle.law_run_recovers.proofs.Vocabulary.{decisions_from, run, table_of, Actor, opening, Event, Begin, mode_of, needed_of, serves, Opening, Prefix, LockMode, fixed_of, home_of, Transaction, Configuration, total_votes, votes_at, votes_in}
+use Rattle.law_run_recovers.proofs.Vocabulary.{IsValid, Begun, votes_set, SetsApart, votes_now, asks_for, first_mode, is_up, shown_at, begun_world}
 use Rattle.file_ops.specs.Rows as rows
 use Rattle.law_run_recovers.proofs.Free.{is_up_of}
 use Rattle.law_run_recovers.proofs.MeetCalm.{Calm, IsOurs, Ours, calm_front, ours_front}
@@ -18,17 +18,14 @@ use Rattle.law_run_recovers.proofs.MeetRun.{part, its_actor, goes_of, never_deci
 use Rattle.law_run_recovers.proofs.MeetTold.{for_lock, says_held, grants, refuses, some_step, found_in, four, opens_free, free_weaker, free_up, free_fits}
 
 in_range : (votes : Configuration) (mode : LockMode) → IsValid votes → needed_of mode votes ≤ total_votes votes.reps
-in_range votes Shared valid = valid.r_in_range.1
-in_range votes Exclusive valid = valid.w_in_range.1
+in_range votes mode h2 = search arith
 
 at_here : (front : List Event) (event : Event) (back : List Event) → AllByRecursion EventGivesValidVotes (front ++ event ∷ back) → EventGivesValidVotes event
 at_here [] event back all = all.0
 at_here (x ∷ front) event back all = at_here front event back all.1
 
 shut_by : (a b : Bool) → a ≡ true → (a && not b) ≡ false → b ≡ true
-shut_by true true up is = refl
-shut_by true false up is = sym is
-shut_by false b up is = absurd (false≢true up)
+shut_by a b h2 h3 = search arith
 
 module _ (given : Opening) (events later : List Event) {still : ℕ → Type 0} (calm : Calm given events later still) (who : Begun given events later) (ours : Ours given events later still who) (f : Fixed given events later who) where
   -- the run up to where its end is fixed

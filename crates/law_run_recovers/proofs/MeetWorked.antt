@@ -1,7 +1,7 @@
 -- Two users meet, by computation.
-use Rattle.law_run_recovers.proofs.Vocabulary.{◌≡◌, ◌⊎◌, inl, inr, ℕ, List, [], ◌∷◌, ◌++◌, refl, sym, ap, subst, ◌∙◌, ◌+◌, Contains, list_all, LockMode, Shared, Exclusive, Configuration, total_votes, needed_of, row_of, has_from}
-use Rattle.law_run_recovers.proofs.Vocabulary.{Transaction, fixed_of, owner, a, Event, Begin, opening, run, Decided, decisions, decisions_from, table_after_all, decisions_from-append, EventGivesValidVotes, CanBe, with_caches}
-use Rattle.law_run_recovers.proofs.Vocabulary.{some_run_revokes, Begun, two_made, turns, puts, HasFirstVotes, VotesNeverMovedOf, ⊎_elim, table_of, Opening, event_fits, valid_event, at_the_last, TheyMeet}
+use Rattle.law_run_recovers.proofs.Vocabulary.{◌≡◌, ◌⊎◌, inl, inr, ℕ, List, [], ◌∷◌, ◌++◌, refl, sym, ap, subst, ◌∙◌, ◌+◌, Contains, list_all, LockMode, Shared, Exclusive, Configuration, total_votes, needed_of, row_of, has_from, Transaction}
+use Rattle.law_run_recovers.proofs.Vocabulary.{fixed_of, owner, a, Event, Begin, opening, run, Decided, decisions, decisions_from, table_after_all, decisions_from-append, EventGivesValidVotes, CanBe, with_caches, some_run_revokes, Begun, two_made}
+use Rattle.law_run_recovers.proofs.Vocabulary.{turns, puts, HasFirstVotes, VotesNeverMovedOf, ⊎_elim, table_of, Opening, event_fits, valid_event, at_the_last, TheyMeet}
 use Rattle.law_run_recovers.specs.MeetsWorked.{two_meet, SomeRunsMeet, votes_moved, SomeRunsMeetByRows}
 use Rattle.law_run_recovers.specs.MeetsByRows.{TheyMeetByRows}
 use Rattle.file_ops.specs.Rows as rows

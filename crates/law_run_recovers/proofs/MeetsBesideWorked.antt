@@ -1,7 +1,7 @@
 -- Two users meet, and one that sets a list and one that reads, while another begins again and again beside, by computation.
-use Rattle.law_run_recovers.proofs.Vocabulary.{◌≡◌, ◌⊎◌, inl, inr, ⊎_elim, ℕ, Bool, true, false, List, [], ◌∷◌, ◌++◌, refl, sym, subst, arith, ◌==◌, ◌&&◌, ◌||◌, not, Contains, list_all, and_parts, eqb-true, false≢true, all_at, at_has}
-use Rattle.law_run_recovers.proofs.Vocabulary.{LockMode, Shared, Exclusive, Lock, State, Transaction, fixed_of, owner, a, Event, Begin, Lack, World, opening, after, run, EventGivesValidVotes, CanBe, some_run_revokes, Begun, puts, b}
-use Rattle.law_run_recovers.proofs.Vocabulary.{locks_at, hinders_itself, is_running, not-true, Opening, close_a, read_a, other, ReaderMeetsBeside, ReadsToo, TheyMeetBeside, meets_some, upsets, three_agents, turns_of_three}
+use Rattle.law_run_recovers.proofs.Vocabulary.{◌≡◌, ◌⊎◌, inl, inr, ⊎_elim, ℕ, Bool, true, false, List, [], ◌∷◌, ◌++◌, refl, sym, subst, arith, ◌==◌, ◌&&◌, ◌||◌, not, Contains, list_all, and_parts, eqb-true, false≢true, all_at, at_has, LockMode}
+use Rattle.law_run_recovers.proofs.Vocabulary.{Shared, Exclusive, Lock, State, Transaction, fixed_of, owner, a, Event, Begin, Lack, World, opening, after, run, EventGivesValidVotes, CanBe, some_run_revokes, Begun, puts, b, locks_at, hinders_itself}
+use Rattle.law_run_recovers.proofs.Vocabulary.{is_running, not-true, Opening, close_a, read_a, other, ReaderMeetsBeside, ReadsToo, TheyMeetBeside, meets_some, upsets, three_agents, turns_of_three}
 use Rattle.law_run_recovers.specs.MeetsBesideWorked.{SomeRunsMeetBeside, SomeRunsMeetReadersBeside, four_agents, fourth_writes, mid_write, reads_beside, turns_of_four, writes_beside}
 use Rattle.rep_core.specs.declared.stamped.Lack.TheVariants as lack
 use Rattle.law_run_recovers.proofs.Keeps.{after_append}

@@ -1,22 +1,21 @@
 -- Which suites the requests of a transaction name, and how many requests it may make.
-use Rattle.law_run_recovers.proofs.Vocabulary.{◌≡◌, inl, ℕ, zero, suc, ◌+◌, ◌≤◌, true, List, [], ◌∷◌, length, Option, Some, None, refl, sym, ap, subst, ◌∙◌, arith, ◌*◌, ◌==◌, ◌&&◌, map, list_any, and_parts, eqb-true, eq-eqb, none-some}
-use Rattle.law_run_recovers.proofs.Vocabulary.{Identity, Opening, Prefix, LockMode, Shared, Exclusive, serves, Request, Has, any_has, has_any, map_has, Op, PlainTable, Asked, Poll, Upgrade, request_for, Cache, Transaction, ReadPoint}
-use Rattle.law_run_recovers.proofs.Vocabulary.{GatheredSuite, Suites, suite_of, Fixed, Task, Phase, Gathering, Fetching, Preparing, Deciding, Finishing, home_of, numbers_from, asked_for, fetched_at, fetched_for, request_in, changes_of}
-use Rattle.law_run_recovers.proofs.Vocabulary.{decision_of, parts_at, Agent, fixed_of, is_idle, begin, exchanges, among, asks_only, names_of, names_only, asks_same, Event, World, table_of, has_asked, locks_asked}
+use Rattle.law_run_recovers.proofs.Vocabulary.{◌≡◌, inl, ℕ, zero, suc, ◌+◌, ◌≤◌, true, List, [], ◌∷◌, length, Option, Some, refl, sym, ap, subst, ◌∙◌, arith, ◌*◌, ◌==◌, map, list_any, eqb-true, eq-eqb, none-some, Identity, Opening, Prefix, LockMode}
+use Rattle.law_run_recovers.proofs.Vocabulary.{Shared, Request, Has, any_has, has_any, map_has, Op, PlainTable, Asked, request_for, Cache, Transaction, GatheredSuite, Suites, Fixed, Task, Phase, Gathering, Fetching, Preparing, Deciding, Finishing}
+use Rattle.law_run_recovers.proofs.Vocabulary.{home_of, numbers_from, asked_for, fetched_for, request_in, changes_of, decision_of, parts_at, Agent, fixed_of, is_idle, begin, exchanges, among, asks_only, names_of, names_only, asks_same, Event, World}
+use Rattle.law_run_recovers.proofs.Vocabulary.{table_of, has_asked, locks_asked}
 use Rattle.txn_core.proofs.Bound.{ends_in_time}
 use Rattle.rep_core.specs.declared.request.Request.TheVariants as request
 use Rattle.txn_core.specs.Doing as doing
 use Rattle.txn_core.specs.Agents as agents
 use Rattle.law_run_recovers.proofs.Asked.{onto_left, onto_so_far}
-use Rattle.law_run_recovers.proofs.Asking.{onto, held_in, held_if}
+use Rattle.law_run_recovers.proofs.Asking.{onto, held_in}
 use Rattle.law_run_recovers.proofs.Early.{fetch_is}
 use Rattle.law_run_recovers.proofs.Heard.{asks_for}
 use Rattle.law_run_recovers.proofs.Polled.{Sight}
 use Rattle.law_run_recovers.proofs.Stands.{Ground, locks_on, PhaseStands}
 
 names_lock : (numbers : List ℕ) (t z : ℕ) (question : Asked) → names_of numbers (request_for t z question) ≡ among numbers z
-names_lock numbers t z (Poll mode) = refl
-names_lock numbers t z Upgrade = refl
+names_lock numbers t z question = search arith
 
 -- ---- what it names
 
@@ -30,26 +29,13 @@ module _ (fixed : Fixed) (world : World) (sight : Sight) (table : PlainTable) (t
   lock_named one has = has_any (λ n. n == one.0) (suites_named table task) one.0 (map_has (λ (one : ℕ × LockMode). one.0) (locks_on table task) one has) (eq-eqb one.0 one.0 refl)
 
   asked_named : (asked left : List (ℕ × LockMode)) (z : ℕ) → locks_on table task ≡ onto asked left → list_any (λ (lock : ℕ × LockMode). lock.0 == z) asked ≡ true → among (suites_named table task) z ≡ true
-  asked_named asked left z are is =
-      let found = any_has (λ (lock : ℕ × LockMode). lock.0 == z) asked is in
-      subst (λ z. among (suites_named table task) z ≡ true) (eqb-true found.0.0 z found.2) (lock_named found.0 (subst (λ locks. Has locks found.0) (sym are) (onto_so_far asked left found.0 found.1)))
+  asked_named asked left z are is = search (any_has, eqb-true, lock_named, onto_so_far, arith)
 
   fetch_found : (suites : Suites) (z server : ℕ) (asked : Request) (found : Option GatheredSuite) → fetched_for task z found ≡ Some (server, asked) → held_in Shared found ≡ true
-  fetch_found suites z server asked None is = absurd (none-some (server, asked) is)
-  fetch_found suites z server asked (Some suite) is = of suite.first is
-    where
-      shared : (mode : LockMode) → serves mode Shared ≡ true
-      shared Shared = refl
-      shared Exclusive = refl
-
-      of : (first : Option ReadPoint) → fetched_at task z first ≡ Some (server, asked) → held_if suite Shared first ≡ true
-      of (Some _) is = shared suite.mode
-      of None is = absurd (none-some (server, asked) is)
+  fetch_found suites z server asked found h5 = search arith
 
   any_wider : (asked : List (ℕ × LockMode)) (z : ℕ) → has_asked asked z Shared ≡ true → list_any (λ (lock : ℕ × LockMode). lock.0 == z) asked ≡ true
-  any_wider asked z is =
-      let found = any_has (λ (lock : ℕ × LockMode). (lock.0 == z) && serves lock.1 Shared) asked is in
-      has_any (λ (lock : ℕ × LockMode). lock.0 == z) asked found.0 found.1 (and_parts (found.0.0 == z) (serves found.0.1 Shared) found.2).0
+  any_wider asked z is = search arith
 
   pub names_for : (now : Cache) (suites : Suites) (phase : Phase) → PhaseStands fixed world sight table task cache Was ground suites now phase → (server : ℕ) (asked : Request) → request_in fixed task suites phase ≡ Some (server, asked)
       → names_of (suites_named table task) asked ≡ true
@@ -58,13 +44,8 @@ module _ (fixed : Fixed) (world : World) (sight : Sight) (table : PlainTable) (t
       let asks = asks_for task z g.suite.collector server asked (sym (ap (asked_for task z) g.there) ∙ is) in
       ap (names_of (suites_named table task)) asks.asked_is ∙ names_lock (suites_named table task) task.t z asks.question
       ∙ lock_named (z, g.mode) (subst (λ locks. Has locks (z, g.mode)) (sym (g.asks.order ∙ ap (onto g.asked) g.next_is)) (onto_left g.asked _ (z, g.mode) (inl refl)))
-  names_for now suites (Fetching z) at server asked is =
-      let ready = at.0 in
-      let held = sym (ready.asks.modes z Shared) ∙ fetch_found suites z server asked (suite_of suites z) is in
-      ap (names_of (suites_named table task)) (fetch_is task z (suite_of suites z) server asked is) ∙ asked_named ready.asked _ z ready.asks.order (any_wider ready.asked z held)
-  names_for now suites (doing.Widening (z ∷ numbers) granted) at server asked is =
-      let asks = asks_for task z at.suite.collector server asked (sym (ap (asked_for task z) at.there) ∙ is) in
-      ap (names_of (suites_named table task)) asks.asked_is ∙ names_lock (suites_named table task) task.t z asks.question ∙ asked_named at.sets.so_far [] z at.sets.all (at.sets.locked (z, at.votes) (inl refl))
+  names_for now suites (Fetching z) at server asked is = search (fetch_found, fetch_is, asked_named, any_wider, arith)
+  names_for now suites (doing.Widening (z ∷ numbers) granted) at server asked is = search (asked_named at.sets.so_far [] z at.sets.all (at.sets.locked (z, at.votes) (inl refl)), asks_for, names_lock, arith)
   names_for now suites (Preparing (now' ∷ numbers) outcome) at server asked is = ap (names_of (suites_named table task)) (sym (asks_same now' server (request.Prepare task.t (parts_at suites (changes_of outcome) now')) asked is))
   names_for now suites (Deciding outcome) at server asked is = ap (names_of (suites_named table task)) (sym (asks_same (home_of fixed.service task.t) server (request.Decide task.t (decision_of task outcome)) asked is))
   names_for now suites (Finishing (now' ∷ numbers) v ended) at server asked is = ap (names_of (suites_named table task)) (sym (asks_same now' server (request.Finish task.t v) asked is))

@@ -1,15 +1,15 @@
 -- What a transaction stands on that goes steadily: near servers that are open to it answer what is in effect, and prefixes that are found name
 -- near servers.
-use Rattle.law_run_recovers.proofs.Vocabulary.{◌≡◌, ℕ, Bool, true, false, List, [], ◌∷◌, Option, Some, refl, sym, ap, subst, ◌*◌, ◌+◌, ◌==◌, ◌&&◌, Contains, list_any, and_parts, and_from, eqb-true, Identity, IsValid, Opening, Prefix}
-use Rattle.law_run_recovers.proofs.Vocabulary.{LockMode, Shared, Exclusive, Op, row_of, needs, transaction, Has, any_has, has_from, contains_from, Transaction, has_vote, Task, fixed_of, Event, Begin, Actor, server_at, run, table_of}
-use Rattle.law_run_recovers.proofs.Vocabulary.{WasPrefix, beginning, machine_of, CanBe, all_keep, no_lock, can_front, all_consistent, is_up, locks_asked, MayStart, asks_for, way_at, is_open_at, first_mode}
+use Rattle.law_run_recovers.proofs.Vocabulary.{◌≡◌, ℕ, Bool, true, false, List, [], ◌∷◌, Option, Some, sym, ap, subst, ◌*◌, ◌+◌, ◌==◌, ◌&&◌, Contains, list_any, and_parts, and_from, eqb-true, Identity, IsValid, Opening, Prefix, arith, LockMode}
+use Rattle.law_run_recovers.proofs.Vocabulary.{Shared, Exclusive, Op, row_of, needs, transaction, Has, any_has, has_from, contains_from, Transaction, has_vote, Task, fixed_of, Event, Begin, Actor, run, table_of, WasPrefix, beginning, machine_of}
+use Rattle.law_run_recovers.proofs.Vocabulary.{CanBe, all_keep, no_lock, can_front, all_consistent, is_up, locks_asked, MayStart, asks_for, way_at, is_open_at, first_mode}
 use Rattle.law_one_table.proofs.Effects as effects
 use Rattle.law_run_recovers.proofs.Steady.{GoesSteadily}
 use Rattle.law_run_recovers.proofs.Found.{Answering}
 use Rattle.law_run_recovers.proofs.Led.{Rules, rules_of}
 use Rattle.law_run_recovers.proofs.NearRows.{start_near}
 use Rattle.law_run_recovers.proofs.Open.{number_is}
-use Rattle.law_run_recovers.proofs.OpenRows.{open_answer, open_wider, up_of, weaker_first}
+use Rattle.law_run_recovers.proofs.OpenRows.{open_answer, open_wider, weaker_first}
 use Rattle.law_run_recovers.proofs.Polled.{Sight, finds_at}
 use Rattle.law_run_recovers.proofs.Rows.{start_was}
 use Rattle.law_run_recovers.proofs.Stands.{Ground, asks_of, locks_on}
@@ -41,9 +41,7 @@ module _ (given : Opening) (events later : List Event) (agent t : ℕ) (caller :
   met_by z server holder = goes.near server && list_any (λ (one : ℕ × LockMode). (one.0 == z) && is_holder holder (way_at (run given events) t one.0 one.1 server)) asked
 
   pub opens_weaker : (z server : ℕ) → opens z Exclusive server ≡ true → opens z Shared server ≡ true
-  opens_weaker z server is =
-      let parts = and_parts (goes.near server) (is_open_at (run given events) t z Exclusive server) is in
-      and_from (goes.near server) (is_open_at (run given events) t z Shared server) parts.0 (open_wider (run given events) t z Exclusive Shared refl server parts.1)
+  opens_weaker z server is = search (and_parts, and_from, open_wider, arith)
 
   -- so servers stand to it
   abbrev pub sight : Sight
@@ -51,9 +49,7 @@ module _ (given : Opening) (events later : List Event) (agent t : ℕ) (caller :
 
   -- who is open is up
   pub opens_up : (z : ℕ) (mode : LockMode) (server : ℕ) → opens z mode server ≡ true → answers server ≡ true
-  opens_up z mode server is =
-      let parts = and_parts (goes.near server) (is_open_at (run given events) t z mode server) is in
-      and_from (goes.near server) (is_up (run given events) server) parts.0 (up_of t z mode (server_at (run given events) server) parts.1)
+  opens_up z mode server is = search arith
 
   -- a prefix that the suite had, and that names near servers
   abbrev pub Known : ℕ → Prefix → Type 0

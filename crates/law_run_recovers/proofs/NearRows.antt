@@ -1,10 +1,9 @@
 -- Where nothing is in the way at near servers, its votes as it finds them are those of the rows.
-use Rattle.law_run_recovers.proofs.Vocabulary.{◌≡◌, inl, inr, ℕ, Bool, true, false, cond, List, [], ◌∷◌, Option, Some, None, refl, sym, ap, subst, ◌∙◌, ◌==◌, ◌&&◌, nat_lt, nat_le, find, map, option_map, length, zero, suc, Contains}
-use Rattle.law_run_recovers.proofs.Vocabulary.{list_all, false≢true, and_parts, eqb-true, eq-eqb, list_all-append, none-some, same_Some, Identity, Representative, Configuration, votes_in, votes_in-wider, Opening, Prefix, LockMode, Shared}
-use Rattle.law_run_recovers.proofs.Vocabulary.{Op, row_of, needs, transaction, find_some, Has, has_any, contains_from, find_none, needed_of, has_vote, fixed_of, Transaction, Event, Begin, Actor, World, actor_at, server_at, run, table_of}
-use Rattle.law_run_recovers.proofs.Vocabulary.{CanBe, begins_job, up_in, is_up, shown_at, Demand, demand, is_met, led_on, led_to, led_so_far_by, newer_by, shows_newer_by, locks_asked, votes_set, votes_of_row, MayStart, AreNear, asks_for}
-use Rattle.law_run_recovers.proofs.Vocabulary.{is_open_way, is_open_at, in_its_way, mode_or, first_mode, NearVotesAreRows}
-use Rattle.law_run_recovers.proofs.Open.{plain_way}
+use Rattle.law_run_recovers.proofs.Vocabulary.{◌≡◌, inl, inr, ℕ, Bool, true, false, cond, List, [], ◌∷◌, Option, Some, None, refl, sym, ap, subst, ◌∙◌, ◌==◌, ◌&&◌, nat_lt, nat_le, find, map, option_map, length, zero, suc, Contains, arith, list_all}
+use Rattle.law_run_recovers.proofs.Vocabulary.{false≢true, and_parts, eqb-true, eq-eqb, list_all-append, none-some, same_Some, Identity, Representative, Configuration, votes_in, votes_in-wider, Opening, Prefix, LockMode, Shared, Op, row_of, needs}
+use Rattle.law_run_recovers.proofs.Vocabulary.{transaction, find_some, Has, has_any, contains_from, find_none, needed_of, has_vote, fixed_of, Transaction, Event, Begin, Actor, World, actor_at, server_at, run, table_of, CanBe, begins_job, is_up}
+use Rattle.law_run_recovers.proofs.Vocabulary.{shown_at, Demand, demand, is_met, led_to, led_so_far_by, newer_by, shows_newer_by, locks_asked, votes_set, votes_of_row, MayStart, AreNear, asks_for, is_open_at, in_its_way, mode_or, first_mode}
+use Rattle.law_run_recovers.proofs.Vocabulary.{NearVotesAreRows}
 use Rattle.law_run_recovers.proofs.OpenRows.{open_row, weaker_first, up_of, up_to}
 use Rattle.law_run_recovers.proofs.Picks.{votes_alike}
 
@@ -29,8 +28,7 @@ alike_find f g (x ∷ xs) same = ap (λ b. cond b (Some x) (find f xs)) (same x 
 -- whoever may be asked first is near
 pub start_near : (given : Opening) (events : List Event) (t : ℕ) (caller : Identity) (site : ℕ) (ops : List Op) (actor : Actor) (near : ℕ → Bool) → AreNear given events t caller site ops actor.agent.cache near
     → (one : ℕ × LockMode) → Contains (asks_for given events t caller ops) one → (start : Prefix) → MayStart (fixed_of given) actor.agent.cache site one.0 start → (server : ℕ) → has_vote start.votes server ≡ true → near server ≡ true
-start_near given events t caller site ops actor near are one has start (inl absent) server vote = are.first server (ap (λ (prefix : Prefix). has_vote prefix.votes server) (sym absent) ∙ vote)
-start_near given events t caller site ops actor near are one has start (inr hinted) server vote = are.hints one start server has hinted vote
+start_near given events t caller site ops actor near h8 one h10 start h12 server h14 = search arith
 
 module _ (given : Opening) (events : List Event) (t : ℕ) (caller : Identity) (site : ℕ) (ops : List Op) (actor : Actor) (near : ℕ → Bool) (are : AreNear given events t caller site ops actor.agent.cache near) where
   abbrev world : World
@@ -46,14 +44,7 @@ module _ (given : Opening) (events : List Event) (t : ℕ) (caller : Identity) (
   module _ (one : ℕ × LockMode) (has : Contains (asks_for given events t caller ops) one) (ups opens : ℕ → Bool)
       (within : (server : ℕ) → ups server ≡ true → is_up (run given events) server ≡ true) (agree : (server : ℕ) → near server ≡ true → opens server ≡ ups server) where
     same_newer : (prefix : Prefix) → AllNear prefix → newer_by (fixed_of given) world ups one.0 prefix ≡ newer_by (fixed_of given) world opens one.0 prefix
-    same_newer prefix all =
-        ap (option_map (λ (rep : Representative). shown_at (fixed_of given) world one.0 rep.0))
-        (alike_find (shows_newer_by (fixed_of given) world ups one.0 prefix) (shows_newer_by (fixed_of given) world opens one.0 prefix) prefix.votes.reps (λ rep there. of rep there (nat_lt 0 rep.1) refl))
-      where
-        of : (rep : Representative) → Has prefix.votes.reps rep → (b : Bool) → nat_lt 0 rep.1 ≡ b
-            → (b && ups rep.0 && nat_lt prefix.pver (shown_at (fixed_of given) world one.0 rep.0).pver) ≡ (b && opens rep.0 && nat_lt prefix.pver (shown_at (fixed_of given) world one.0 rep.0).pver)
-        of rep there true some = ap (λ b. true && b && nat_lt prefix.pver (shown_at (fixed_of given) world one.0 rep.0).pver) (sym (agree rep.0 (votes_near prefix all rep there some)))
-        of rep there false some = refl
+    same_newer prefix all = search (alike_find, nat_lt, votes_near, arith)
 
     near_newer : (prefix next : Prefix) → AllNear prefix → newer_by (fixed_of given) world ups one.0 prefix ≡ Some next → AllNear next
     near_newer prefix next all = of (find (shows_newer_by (fixed_of given) world ups one.0 prefix) prefix.votes.reps) refl
@@ -69,24 +60,7 @@ module _ (given : Opening) (events : List Event) (t : ℕ) (caller : Identity) (
     pub same_so_far : (n : ℕ) (prefix : Prefix) → AllNear prefix
         → (led_so_far_by n (fixed_of given) world ups one.0 prefix ≡ led_so_far_by n (fixed_of given) world opens one.0 prefix) × AllNear (led_so_far_by n (fixed_of given) world ups one.0 prefix)
     same_so_far zero prefix all = (refl, all)
-    same_so_far (suc n) prefix all = of (newer_by (fixed_of given) world ups one.0 prefix) refl (same_so_far n)
-      where
-        of : (found : Option Prefix) → newer_by (fixed_of given) world ups one.0 prefix ≡ found
-            → ((prefix : Prefix) → AllNear prefix → (led_so_far_by n (fixed_of given) world ups one.0 prefix ≡ led_so_far_by n (fixed_of given) world opens one.0 prefix) × AllNear (led_so_far_by n (fixed_of given) world ups one.0 prefix))
-            → (led_on prefix (newer_by (fixed_of given) world ups one.0 prefix) (λ newer. led_so_far_by n (fixed_of given) world ups one.0 newer)
-            ≡ led_on prefix (newer_by (fixed_of given) world opens one.0 prefix) (λ newer. led_so_far_by n (fixed_of given) world opens one.0 newer))
-            × AllNear (led_on prefix (newer_by (fixed_of given) world ups one.0 prefix) (λ newer. led_so_far_by n (fixed_of given) world ups one.0 newer))
-        of None is go = (
-          ap (λ found. led_on prefix found (λ newer. led_so_far_by n (fixed_of given) world ups one.0 newer)) is
-              ∙ sym (ap (λ found. led_on prefix found (λ newer. led_so_far_by n (fixed_of given) world opens one.0 newer)) (sym (same_newer prefix all) ∙ is)),
-          subst (λ found. AllNear (led_on prefix found (λ newer. led_so_far_by n (fixed_of given) world ups one.0 newer))) (sym is) all,
-        )
-        of (Some next) is go =
-            let rest = go next (near_newer prefix next all is) in (
-              ap (λ found. led_on prefix found (λ newer. led_so_far_by n (fixed_of given) world ups one.0 newer)) is ∙ rest.0
-                  ∙ sym (ap (λ found. led_on prefix found (λ newer. led_so_far_by n (fixed_of given) world opens one.0 newer)) (sym (same_newer prefix all) ∙ is)),
-              subst (λ found. AllNear (led_on prefix found (λ newer. led_so_far_by n (fixed_of given) world ups one.0 newer))) (sym is) rest.1,
-            )
+    same_so_far (suc n) prefix all = search (same_newer, near_newer, same_so_far n, arith)
 
     -- by votes of near servers, these have the same
     pub same_got : (prefix : Prefix) → AllNear prefix → votes_in prefix.votes.reps ups ≡ votes_in prefix.votes.reps opens
@@ -98,11 +72,7 @@ module _ (given : Opening) (events : List Event) (t : ℕ) (caller : Identity) (
     (clear : (one : ℕ × LockMode) (server : ℕ) → Contains (asks_for given events t caller ops) one → near server ≡ true → in_its_way (run given events) t one.0 one.1 server ≡ false) where
   -- a near server is open where it is up
   pub open_is_up : (one : ℕ × LockMode) → Contains (asks_for given events t caller ops) one → (server : ℕ) → near server ≡ true → is_open_at (run given events) t one.0 one.1 server ≡ is_up (run given events) server
-  open_is_up one has server is = ap is_open_way (plain_way t one.0 one.1 (server_at (run given events) server) (clear one server has is)) ∙ of (up_in (server_at (run given events) server))
-    where
-      of : (b : Bool) → is_open_way (cond b (Some None) None) ≡ b
-      of true = refl
-      of false = refl
+  open_is_up one has server is = search arith
 
   module _ (can : CanBe given events) (agent : ℕ) (there : actor_at (run given events) agent ≡ Some actor)
       (begins : begins_job given (run given events) (Begin agent (Transaction caller site ops)) ≡ Some (t, Transaction caller site ops)) where
@@ -130,9 +100,7 @@ module _ (given : Opening) (events : List Event) (t : ℕ) (caller : Identity) (
 -- tests that hold of one image of members hold of another
 all_alike : (p : Demand → Bool) (f g : ℕ × LockMode → Demand) (xs : List (ℕ × LockMode)) → ((x : ℕ × LockMode) → Has xs x → p (f x) ≡ true → p (g x) ≡ true) → list_all p (map f xs) ≡ true → list_all p (map g xs) ≡ true
 all_alike p f g [] so is = refl
-all_alike p f g (x ∷ xs) so is =
-    let parts = and_parts (p (f x)) (list_all p (map f xs)) is in
-    ap (λ b. b && list_all p (map g xs)) (so x (inl refl) parts.0) ∙ all_alike p f g xs (λ x has. so x (inr has)) parts.1
+all_alike p f g (x ∷ xs) so is = search (and_parts, all_alike p f g xs, arith)
 
 pub near_votes_are_rows : NearVotesAreRows
 near_votes_are_rows given events can agent t caller site ops actor start near there begins are clear may met =

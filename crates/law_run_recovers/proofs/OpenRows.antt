@@ -1,13 +1,11 @@
 -- What servers show that are open to a transaction is in effect. So its votes as it finds them are those of the rows, whatever locks others have.
-use Rattle.law_run_recovers.proofs.Vocabulary.{◌≡◌, inl, inr, ⊎_elim, ℕ, ◌≤◌, Bool, true, false, cond, List, [], ◌∷◌, ◌++◌, Option, Some, None, refl, sym, ap, subst, ◌∙◌, arith, ◌==◌, ◌&&◌, ◌||◌, not, nat_le, find, map, option_map}
-use Rattle.law_run_recovers.proofs.Vocabulary.{unwrap_or, list_all, nat_cmp, false≢true, and_parts, eqb-true, eq-eqb, nat_tests, get, Identity, Configuration, votes_in, votes_in-wider, Opening, Prefix, Replica, LockMode, Shared, Exclusive}
-use Rattle.law_run_recovers.proofs.Vocabulary.{is_exclusive, serves, Op, row_of, Need, Hold, Know, needs, transaction, Lock, IsConsistent, conflicts, in_the_way, State, copy_of, Has, has_from, find_none, needed_of, fixed_of, Event, Begin}
-use Rattle.law_run_recovers.proofs.Vocabulary.{Transaction, Actor, actor_at, server_at, run, table_of, IsQuorum, in_effect, effect, plan_of, Shows, servers_of, home_in, machine_of, AllKeepSides, row_at, CanBe, all_keep, begins_job, no_lock}
-use Rattle.law_run_recovers.proofs.Vocabulary.{all_consistent, up_in, shown_at, shown_in, demand_by, is_met, led_to_by, has_asked, not_asked, locks_asked, votes_set, votes_of_row, MayStart, is_open_way, way_in, is_open_at, Want, mode_or}
-use Rattle.law_run_recovers.proofs.Vocabulary.{first_mode, open_demand, OpenVotesAreRows, or_parts, serves_itself}
+use Rattle.law_run_recovers.proofs.Vocabulary.{◌≡◌, ⊎_elim, ℕ, ◌≤◌, Bool, true, false, cond, List, [], ◌∷◌, ◌++◌, Option, Some, None, refl, sym, ap, subst, ◌∙◌, arith, ◌==◌, nat_le, find, map, list_all, nat_cmp, false≢true, and_parts, eq-eqb}
+use Rattle.law_run_recovers.proofs.Vocabulary.{nat_tests, get, Identity, votes_in, votes_in-wider, Opening, Prefix, LockMode, Shared, serves, Op, row_of, Need, Hold, Know, Lock, IsConsistent, conflicts, in_the_way, State, Has, has_from, find_none}
+use Rattle.law_run_recovers.proofs.Vocabulary.{needed_of, fixed_of, Event, Begin, Transaction, Actor, actor_at, server_at, run, table_of, IsQuorum, effect, Shows, servers_of, home_in, machine_of, AllKeepSides, row_at, CanBe, all_keep, begins_job}
+use Rattle.law_run_recovers.proofs.Vocabulary.{no_lock, all_consistent, up_in, shown_at, demand_by, is_met, led_to_by, has_asked, not_asked, votes_of_row, MayStart, is_open_way, way_in, is_open_at, mode_or, first_mode, OpenVotesAreRows, or_parts}
+use Rattle.law_run_recovers.proofs.Vocabulary.{serves_itself}
 use Rattle.law_suite_machine.specs.Machine.{World}
 use Rattle.rep_core.specs.Intentions as server
-use Rattle.rep_core.specs.State as state
 use Rattle.run_core.specs.Worlds as worlds
 use Rattle.law_one_table.proofs.Effects as effects
 use Rattle.law_run_recovers.proofs.Found.{Answering, found_is_row}
@@ -20,19 +18,10 @@ use Rattle.law_run_recovers.proofs.Aside.{both_false}
 -- ---- what an open server shows is in effect
 
 not_same : (a b : ℕ) → (a ≡ b → ⊥) → (a == b) ≡ false
-not_same a b apart = of (a == b) refl
-  where
-    of : (c : Bool) → (a == b) ≡ c → c ≡ false
-    of true is = absurd (apart (eqb-true a b is))
-    of false is = refl
+not_same a b apart = search arith
 
 pub up_of : (t z : ℕ) (mode : LockMode) (found : Option State) → is_open_way (way_in t z mode found) ≡ true → up_in found ≡ true
-up_of t z mode None is = absurd (false≢true is)
-up_of t z mode (Some st) is = of st.up (option_map (λ (lock : Lock). lock.t) (in_the_way t z mode st.locks)) is
-  where
-    of : (b : Bool) (other : Option ℕ) → is_open_way (cond b (Some other) None) ≡ true → b ≡ true
-    of true other is = refl
-    of false other is = is
+up_of t z mode found h4 = search arith
 
 module _ (given : Opening) (z : ℕ) (w : World) (world : worlds.World) (shows : Shows z (home_in given) (servers_of given world) w)
     (all : (i : ℕ) (st : State) → server_at world i ≡ Some st → IsConsistent st) (t : ℕ) (none : (i : ℕ) (st : State) → server_at world i ≡ Some st → (lock : Lock) → Has st.locks lock → lock.t ≡ t → ⊥) (mode : LockMode) where
@@ -47,15 +36,7 @@ module _ (given : Opening) (z : ℕ) (w : World) (world : worlds.World) (shows :
       ∙ in_conflict t z mode beside.lock beside.on_it (not_same beside.lock.t t (none i st at beside.lock has)) beside.exclusive))
 
   open_stored : (i : ℕ) (found : Option State) → server_at world i ≡ found → is_open_way (way_in t z mode found) ≡ true → (effect w i).prefix ≡ shown_at (fixed_of given) world z i
-  open_stored i None at is = absurd (false≢true is)
-  open_stored i (Some st) at is =
-      let same : servers_of given world i ≡ st = ap (λ found. unwrap_or found (state.opening i given)) at in
-      let plan = (shows.at i).plan ∙ ap (λ (st : State). plan_of (get nat_cmp st.store.intentions z) (copy_of st.store z)) same
-      ∙ ap (λ found. plan_of found (copy_of st.store z)) (no_intention i st at (free_where t z mode st is) (get nat_cmp st.store.intentions z) refl) in
-      ap (λ plan. (in_effect w.verdict plan (w.copy i)).prefix) plan
-      ∙ ap (λ (copy : Replica). copy.prefix) (shows.at i).copy
-      ∙ ap (λ (st : State). (copy_of st.store z).prefix) same
-      ∙ sym (ap (λ found. shown_in (fixed_of given) found z) at)
+  open_stored i found h2 h3 = search (false≢true, no_intention, free_where, arith)
 
   -- so open servers answer
   pub open_answer : Answering (fixed_of given) world z w (is_open_at world t z mode)
@@ -64,31 +45,15 @@ module _ (given : Opening) (z : ℕ) (w : World) (world : worlds.World) (shows :
 -- ---- open in a stronger mode
 
 more_conflicts : (t z : ℕ) (m k : LockMode) → serves m k ≡ true → (lock : Lock) → conflicts t z k lock ≡ true → conflicts t z m lock ≡ true
-more_conflicts t z Shared Shared is lock so = so
-more_conflicts t z Exclusive Exclusive is lock so = so
-more_conflicts t z Shared Exclusive is lock so = absurd (false≢true is)
-more_conflicts t z Exclusive Shared is lock so = of (lock.suite == z) (lock.t == t) (is_exclusive lock.mode) so
-  where
-    of : (a b c : Bool) → (a && not b && (false || c)) ≡ true → (a && not b && (true || c)) ≡ true
-    of a b c so = grind (arith, nat_tests)
+more_conflicts t z m k h4 lock h6 = search arith
 
 pub open_wider : (world : worlds.World) (t z : ℕ) (m k : LockMode) → serves m k ≡ true → (i : ℕ) → is_open_at world t z m i ≡ true → is_open_at world t z k i ≡ true
-open_wider world t z m k stronger i = of (server_at world i)
-  where
-    of : (found : Option State) → is_open_way (way_in t z m found) ≡ true → is_open_way (way_in t z k found) ≡ true
-    of None is = absurd (false≢true is)
-    of (Some st) is =
-        let free = find_nobody (conflicts t z m) (conflicts t z k) (more_conflicts t z m k stronger) st.locks (free_where t z m st is) in
-        ap (λ b. is_open_way (cond b (Some (option_map (λ (lock : Lock). lock.t) (in_the_way t z k st.locks))) None)) (up_of t z m (Some st) is)
-        ∙ ap (λ found. is_open_way (Some (option_map (λ (lock : Lock). lock.t) found))) free
+open_wider world t z m k stronger i = search (false≢true, find_nobody, more_conflicts, free_where, up_of, arith)
 
 -- ---- a suite is asked for in its first mode, or a stronger one
 
 must_be : (m k : LockMode) → serves m k ≡ false → serves k m ≡ true
-must_be Shared Shared is = absurd (false≢true (sym is))
-must_be Shared Exclusive is = refl
-must_be Exclusive Shared is = absurd (false≢true (sym is))
-must_be Exclusive Exclusive is = absurd (false≢true (sym is))
+must_be m k h2 = search arith
 
 -- what is asked for was not asked for before
 not_had : (asked : List (ℕ × LockMode)) (left : List Need) (one : ℕ × LockMode) → Has (not_asked asked left) one → has_asked asked one.0 one.1 ≡ false
@@ -98,9 +63,7 @@ not_had asked (Hold suite mode ∷ left) one has = of (has_asked asked suite mod
   where
     of : (b : Bool) → has_asked asked suite mode ≡ b → (Has (not_asked asked left) one → has_asked asked one.0 one.1 ≡ false) → (Has (not_asked ((suite, mode) ∷ asked) left) one → has_asked ((suite, mode) ∷ asked) one.0 one.1 ≡ false)
         → Has (cond b (not_asked asked left) ((suite, mode) ∷ not_asked ((suite, mode) ∷ asked) left)) one → has_asked asked one.0 one.1 ≡ false
-    of true is go more has = go has
-    of false is go more has =
-        ⊎_elim (λ same. ap (λ (one : ℕ × LockMode). has_asked asked one.0 one.1) (sym same) ∙ is) (λ has. (or_parts ((suite == one.0) && serves mode one.1) (has_asked asked one.0 one.1) (more has)).1) has
+    of b h1 h2 h3 h4 = search (or_parts, arith)
 
 pub weaker_first : (asked : List (ℕ × LockMode)) (left : List Need) (one : ℕ × LockMode) → Has (not_asked asked left) one → serves one.1 (first_mode (not_asked asked left) one.0) ≡ true
 weaker_first asked [] one has = absurd has
@@ -112,10 +75,7 @@ weaker_first asked (Hold suite mode ∷ left) one has = of (has_asked asked suit
 
     by : (b : Bool) → (suite == one.0) ≡ b → Has rest one → (Has rest one → serves one.1 (first_mode rest one.0) ≡ true)
         → serves one.1 (mode_or Shared (cond b (Some (suite, mode)) (find (λ (other : ℕ × LockMode). other.0 == one.0) rest))) ≡ true
-    by true same has more =
-        let had = not_had ((suite, mode) ∷ asked) left one has in
-        must_be mode one.1 (both_false (suite == one.0) (serves mode one.1) (or_parts ((suite == one.0) && serves mode one.1) (has_asked asked one.0 one.1) had).0 same)
-    by false other has more = more has
+    by b h1 h2 h3 = search (not_had, must_be, both_false, or_parts, arith)
 
     of : (b : Bool) → (Has (not_asked asked left) one → serves one.1 (first_mode (not_asked asked left) one.0) ≡ true) → (Has rest one → serves one.1 (first_mode rest one.0) ≡ true)
         → Has (cond b (not_asked asked left) ((suite, mode) ∷ rest)) one → serves one.1 (first_mode (cond b (not_asked asked left) ((suite, mode) ∷ rest)) one.0) ≡ true
@@ -134,9 +94,7 @@ module _ {X Y Z : Type 0} where
   fronts_alike : (p : Z → Bool) (h : Y → Z) (f g : X → Y) (others : List Y) (xs : List X) → ((x : X) → Has xs x → p (h (f x)) ≡ true → p (h (g x)) ≡ true)
       → list_all p (map h (map f xs ++ others)) ≡ true → list_all p (map h (map g xs ++ others)) ≡ true
   fronts_alike p h f g others [] so is = is
-  fronts_alike p h f g others (x ∷ xs) so is =
-      let parts = and_parts (p (h (f x))) (list_all p (map h (map f xs ++ others))) is in
-      ap (λ b. b && list_all p (map h (map g xs ++ others))) (so x (inl refl) parts.0) ∙ fronts_alike p h f g others xs (λ x has. so x (inr has)) parts.1
+  fronts_alike p h f g others (x ∷ xs) so is = search (and_parts, fronts_alike p h f g others xs, arith)
 
 pub up_to : (a b c : ℕ) → nat_le a b ≡ true → b ≤ c → nat_le a c ≡ true
 up_to a b c le more = grind (arith, nat_tests)
@@ -167,23 +125,10 @@ module _ (given : Opening) (events : List Event) (can : CanBe given events) (age
       found = led_to_by (fixed_of given) (run given events) (is_open_at (run given events) t z first) z start
 
       enough : (needed : ℕ) → nat_le needed (votes_in found.votes.reps (is_open_at (run given events) t z mode)) ≡ true → nat_le needed (votes_in found.votes.reps (is_open_at (run given events) t z first)) ≡ true
-      enough needed met =
-          up_to needed (votes_in found.votes.reps (is_open_at (run given events) t z mode)) (votes_in found.votes.reps (is_open_at (run given events) t z first)) met
-          (votes_in-wider found.votes.reps (is_open_at (run given events) t z mode) (is_open_at (run given events) t z first) (open_wider (run given events) t z mode first stronger))
+      enough needed met = search (up_to, votes_in-wider, open_wider, arith)
 
       quorum : (m : LockMode) → nat_le (needed_of m found.votes) (votes_in found.votes.reps (is_open_at (run given events) t z mode)) ≡ true → IsQuorum found.votes (is_open_at (run given events) t z first)
-      quorum Shared met = inl (enough found.votes.r met)
-      quorum Exclusive met = inr (enough found.votes.w met)
+      quorum m h1 = search (enough, arith)
 
 pub open_votes_are_rows : OpenVotesAreRows
-open_votes_are_rows given events can agent t caller site ops actor start there begins may met =
-    let world = run given events in
-    let table = table_of given events in
-    let asked : List (ℕ × LockMode) = locks_asked table t caller ops in
-    let set : List Want = map (λ (one : ℕ × Configuration). record { suite = one.0; mode = Exclusive; votes = one.1 }) (votes_set table t caller ops) in
-    let found : ℕ × LockMode → Want = λ one. record { suite = one.0; mode = one.1; votes = (led_to_by (fixed_of given) world (is_open_at world t one.0 (first_mode asked one.0)) one.0 (start one.0)).votes } in
-    let of_row : ℕ × LockMode → Want = λ one. record { suite = one.0; mode = one.1; votes = votes_of_row (fixed_of given) (row_of table.rows one.0) } in
-    fronts_alike is_met (open_demand world t) found of_row set asked
-    (λ one has. open_row given events can agent t caller site ops actor there begins one.0 (start one.0) (may one.0) one.1 (first_mode asked one.0)
-    (weaker_first [] (needs (row_of table.rows) [] (transaction table.service t caller ops)) one has))
-    met
+open_votes_are_rows given events can agent t caller site ops actor start there begins may met = search (fronts_alike, open_row, weaker_first, arith)

@@ -1,7 +1,7 @@
 -- A step of an agent that sweeps, where it was served.
-use Rattle.law_run_recovers.proofs.Vocabulary.{◌≡◌, ℕ, true, false, cond, Option, Some, None, is_some, refl, sym, ap, subst, slice_set, false≢true, Request, Stamped, State, reply_of, is_full, served, answer_of, Response, Replied, Fixed}
-use Rattle.law_run_recovers.proofs.Vocabulary.{SweepRun, RunningSweep, After, asked_now, after_answer, Taken, left, end_of, next_in, take_in, take, Step, Served, Actor, World, Stepped, server_at, actor_at, serve, outcome_of, moved}
-use Rattle.law_run_recovers.proofs.Vocabulary.{answered, asks_at, asks, steps_once, step, puts_in}
+use Rattle.law_run_recovers.proofs.Vocabulary.{◌≡◌, ℕ, true, false, cond, Option, Some, None, is_some, refl, ap, slice_set, false≢true, Request, Stamped, State, reply_of, is_full, served, answer_of, Response, Replied, Fixed, arith, SweepRun}
+use Rattle.law_run_recovers.proofs.Vocabulary.{RunningSweep, After, asked_now, after_answer, Taken, left, end_of, next_in, take_in, take, Step, Served, Actor, World, Stepped, server_at, actor_at, serve, outcome_of, moved, answered, asks_at, step}
+use Rattle.law_run_recovers.proofs.Vocabulary.{puts_in}
 
 module _ (fixed : Fixed) (world : World) (i : ℕ) (actor : Actor) (sweep_run : SweepRun) where
   abbrev pub asked : ℕ × Request
@@ -49,11 +49,7 @@ module _ (fixed : Fixed) (world : World) (i : ℕ) (actor : Actor) (sweep_run : 
         what = record { server = asked.0; request = stamped; reply = answer_of st stamped }
 
     at_server : (found : Option State) → server_at world asked.0 ≡ found → is_some (asks_at fixed world i actor asked found).done.served ≡ true → Went (asks_at fixed world i actor asked found)
-    at_server None at is = absurd (false≢true is)
-    at_server (Some st) at is = went st at is
+    at_server found h1 h2 = search (false≢true, went, arith)
 
     pub own_step : is_some (step fixed world (Step i)).done.served ≡ true → Went (step fixed world (Step i))
-    own_step =
-        subst (λ found. is_some (steps_once fixed world i found).done.served ≡ true → Went (steps_once fixed world i found)) (sym is)
-        (subst (λ asked. is_some (asks fixed world i actor asked).done.served ≡ true → Went (asks fixed world i actor asked)) (sym (ap (next_in fixed) doing))
-        (at_server (server_at world asked.0) refl))
+    own_step = search (at_server, arith)

@@ -1,5 +1,5 @@
 -- Where all that begin but one only read nobody else is beside: so what is promised to one that writes and one that reads while others are beside is promised to them.
-use Rattle.law_run_recovers.proofs.Vocabulary.{Bool, Contains, List, ap, false, inl, inr, refl, subst, sym, true, ℕ, ⊎_elim, ◌++◌, ◌==◌, ◌||◌, ◌∙◌, ◌≡◌, ◌⊎◌, and_parts, eqb-true, false≢true, list_any, is_decided, IsNotDecided, Has, any_has}
+use Rattle.law_run_recovers.proofs.Vocabulary.{Bool, Contains, List, ap, false, inl, inr, refl, subst, sym, true, ℕ, ⊎_elim, ◌++◌, ◌==◌, ◌||◌, ◌∙◌, ◌≡◌, ◌⊎◌, and_parts, eqb-true, false≢true, list_any, is_decided, IsNotDecided, Has, any_has, arith}
 use Rattle.law_run_recovers.proofs.Vocabulary.{contains_from, has_any, has_from, Lock, decisions, run, EndedJob, Event, is_exclusive, Opening, LockMode, Exclusive, Shared, Begun, clashes, its_asks, EndsThen, asks_for, only_reads, Always}
 use Rattle.law_run_recovers.specs.Readers.{WriterOrReadersAreDecidedAt, ReadersMeet}
 use Rattle.law_run_recovers.specs.MeetsBeside.{GoesOn, ReaderMeetsBeside, ReadsToo, first_asks, meets_some}
@@ -66,8 +66,7 @@ module _ (given : Opening) (events later : List Event) (writer reader : Begun gi
         shared = shared_where (asks_for given events other.t other.caller other.ops) lock.suite lock.mode (reads_first other other_reads) asks
 
         no_reader : (b : Bool) → meets_some lock (first_asks given events later reader) ≡ b → meets_some lock (first_asks given events later reader) ≡ false
-        no_reader false is = is
-        no_reader true is = absurd (shares (first_asks given events later reader) lock.suite lock.mode (reads_first reader reads) shared is)
+        no_reader b h1 = search (shares, reads_first, shared, arith)
 
         of : (b : Bool) → meets_some lock (first_asks given events later writer) ≡ b → (meets_some lock (first_asks given events later writer) ≡ false) ⊎ ((lock.suite ≡ meets.suite) × (lock.mode ≡ Shared))
         of false is = inl is
@@ -94,19 +93,14 @@ module _ (given : Opening) (events later : List Event) (writer reader : Begun gi
           (λ other_reads. inr (inr (reads_too asked.who other_reads lock asked.asks)))
           (meets.others_read asked.who);
       reads = ap only_reads (sym (asks_is reader)) ∙ reads;
-      at_it = λ one has clash.
-          meets.at_it reader one reads (subst (λ asked. Contains asked one) (sym (asks_is writer)) has) (ap (λ asked. list_any (clashes one) asked) (asks_is reader) ∙ clash);
+      at_it = search (asks_is, arith);
       tight = meets.tight;
       unmoved = meets.unmoved;
       moves_none = λ votes has. meets.moves_none votes (subst (λ sets. Contains sets (meets.suite, votes)) (sym (votes_same given events later calm writer)) has);
     }
 
   pub decided_alone : (is_decided job.ending || is_decided outcome.ending) ≡ true
-  decided_alone = of (is_decided job.ending) refl
-    where
-      of : (a : Bool) → is_decided job.ending ≡ a → (a || is_decided outcome.ending) ≡ true
-      of true is = refl
-      of false is = ap (λ a. a || is_decided outcome.ending) (sym is) ∙ decided_one given events later writer reader (beside is) job outcome ends other_ends
+  decided_alone = search (decided_one, beside, arith)
 
 pub writer_or_readers_are_decided : Always WriterOrReadersAreDecidedAt
 writer_or_readers_are_decided given events later writer reader meets reads job outcome ends other_ends = decided_alone given events later writer reader meets reads job outcome ends other_ends

@@ -1,7 +1,7 @@
 -- One sets a list while two read, by computation.
-use Rattle.law_run_recovers.proofs.Vocabulary.{Bool, Contains, List, [], ap, arith, inl, inr, not, refl, sym, true, ℕ, ◌++◌, ◌==◌, ◌∙◌, ◌∷◌, ◌≡◌, ◌⊎◌, and_parts, false≢true, list_all, list_any, some_run_revokes, CanBe, EventGivesValidVotes}
-use Rattle.law_run_recovers.proofs.Vocabulary.{any_has, has_any, has_from, Event, Begin, is_exclusive, LockMode, Exclusive, Shared, owner, Transaction, Begun, clashes, its_asks, two_made, asks_for, only_reads, with_caches, ◌≤◌, IsAccepted}
-use Rattle.law_run_recovers.proofs.Vocabulary.{max_agents, close_a, read_a, other, three_agents, turns_of_three, closed_while_read, SomeRunsMeetReaders}
+use Rattle.law_run_recovers.proofs.Vocabulary.{Bool, Contains, List, [], ap, arith, inl, inr, not, refl, sym, true, ℕ, ◌++◌, ◌==◌, ◌∙◌, ◌∷◌, ◌≡◌, ◌⊎◌, and_parts, false≢true, list_all, list_any, some_run_revokes, CanBe, EventGivesValidVotes, any_has}
+use Rattle.law_run_recovers.proofs.Vocabulary.{has_any, has_from, Event, Begin, is_exclusive, LockMode, Exclusive, Shared, owner, Transaction, Begun, clashes, its_asks, two_made, asks_for, only_reads, with_caches, ◌≤◌, IsAccepted, max_agents}
+use Rattle.law_run_recovers.proofs.Vocabulary.{close_a, read_a, other, three_agents, turns_of_three, closed_while_read, SomeRunsMeetReaders}
 use Rattle.law_run_recovers.specs.Readers.{ReadersMeet}
 use Rattle.law_run_recovers.proofs.AmongCourse.{head_or, tail_or}
 use Rattle.law_run_recovers.proofs.BesideWorked.{is_step, none_begins}

@@ -1,8 +1,7 @@
 -- Sweeps of servers one after the other.
-use Rattle.law_run_recovers.proofs.Vocabulary.{◌≡◌, ◌≢◌, ◌⊎◌, inl, inr, ⊎_elim, ℕ, ◌+◌, Bool, true, false, cond, List, [], ◌∷◌, ◌++◌, append_assoc, append-nil, Option, Some, None, is_some, refl, sym, ap, subst, ◌∙◌, ◌*◌, ◌==◌, ◌&&◌, not}
-use Rattle.law_run_recovers.proofs.Vocabulary.{nat_lt, list_all, list_any, false≢true, and_parts, cases_Bool, eqb-true, and_from, Opening, Lock, has_prepared, rise, has_filter, filter_has, any_has, has_any, Job, Sweep, Fixed, Doing}
-use Rattle.law_run_recovers.proofs.Vocabulary.{RunningSweep, home_of, fixed_of, is_idle, has_sense, max_jobs, Event, Begin, Actor, World, opening, actor_at, has_no_job, step, after, run, begins_now, same_or, begins_job, with_job, is_up}
-use Rattle.law_run_recovers.proofs.Vocabulary.{locks_at, is_in_doubt, in_doubt, unhindered_from, sweeps, goes_round, Always, OnlyDoubtsAreLeftAt}
+use Rattle.law_run_recovers.proofs.Vocabulary.{◌≡◌, ◌≢◌, ◌⊎◌, inl, ℕ, ◌+◌, true, false, List, [], ◌∷◌, ◌++◌, append_assoc, append-nil, Option, Some, is_some, refl, sym, ap, subst, ◌∙◌, ◌==◌, ◌&&◌, not, arith, list_all, list_any, false≢true}
+use Rattle.law_run_recovers.proofs.Vocabulary.{and_parts, cases_Bool, eqb-true, and_from, Opening, Lock, has_prepared, rise, has_filter, filter_has, any_has, has_any, Job, Sweep, Fixed, home_of, fixed_of, Event, Begin, Actor, World, opening}
+use Rattle.law_run_recovers.proofs.Vocabulary.{actor_at, has_no_job, step, after, run, begins_now, same_or, begins_job, with_job, is_up, locks_at, is_in_doubt, in_doubt, unhindered_from, sweeps, goes_round, Always, OnlyDoubtsAreLeftAt}
 use Rattle.run_core.proofs.Appending.{after-append}
 use Rattle.law_run_recovers.proofs.Doubts.{filter_alike, filter_all}
 use Rattle.law_run_recovers.proofs.Found.{or_rest}
@@ -45,55 +44,30 @@ module _ (given : Opening) (agent : ℕ) (first : World) where
     others : (x : ℕ) → x ≢ server → locks_at new x ≡ locks_at w x
 
   swept_now : (w new : World) (server : ℕ) → Since w → More w new server → Swept server new
-  swept_now w new server since more =
-      let alike = doubts_alike fixed w first (locks_at w server) since.ups in
-      ⊎_elim
-      (λ still. more.swept ∙ alike ∙ ap (in_doubt fixed first) still)
-      (λ swept. more.swept ∙ alike ∙ ap (in_doubt fixed first) swept ∙ doubts_stay fixed first (locks_at first server))
-      (since.locks server)
+  swept_now w new server since more = search (doubts_alike, doubts_stay, arith)
 
   swept_still : (w new : World) (server x : ℕ) → Since w → More w new server → Swept x w → Swept x new
-  swept_still w new server x since more swept =
-      ⊎_elim (λ same. ap (λ x. locks_at new x) same ∙ swept_now w new server since more ∙ ap (λ x. in_doubt fixed first (locks_at first x)) (sym same)) (λ apart. more.others x apart ∙ swept) (same_or x server)
+  swept_still w new server x since more swept = search (swept_now, same_or, arith)
 
   since_more : (w new : World) (server : ℕ) → Since w → More w new server → Since new
-  since_more w new server since more = record {
-    ups = λ x. more.ups x ∙ since.ups x;
-    locks = λ x. ⊎_elim
-        (λ same. inr (ap (λ x. locks_at new x) same ∙ swept_now w new server since more ∙ ap (λ x. in_doubt fixed first (locks_at first x)) (sym same)))
-        (λ apart. ⊎_elim (λ still. inl (more.others x apart ∙ still)) (λ swept. inr (more.others x apart ∙ swept)) (since.locks x))
-        (same_or x server);
-  }
+  since_more w new server since more = grind (swept_now, same_or, arith)
 
   -- ---- where the next begins, or none is left, the agent is idle
 
   begins_idle : (job : Job) (found : Option Actor) → is_some (with_job job (begins_now fixed agent job found)) ≡ true → has_no_job found ≡ true
-  begins_idle job None is = refl
-  begins_idle job (Some actor) is = of (is_idle actor.agent.doing) (has_sense fixed job) (nat_lt actor.agent.count max_jobs) is
-    where
-      of : (a b c : Bool) → is_some (with_job job (cond (a && b && c) (Some (64 * actor.agent.count + agent)) None)) ≡ true → a ≡ true
-      of true b c is = refl
-      of false b c is = absurd (false≢true is)
+  begins_idle job found h2 = search arith
 
   begun_so : (job : Job) (found : Option ℕ) → is_some (with_job job found) ≡ true → (t : ℕ) × (with_job job found ≡ Some (t, job))
-  begun_so job None is = absurd (false≢true is)
-  begun_so job (Some t) is = (t, refl)
+  begun_so job found h2 = search arith
 
   goes_idle : (w : World) (sweep_run : List (ℕ × List Event)) → goes_round given agent w sweep_run ≡ true → has_no_job (actor_at w agent) ≡ true
   goes_idle w [] goes = goes
-  goes_idle w (one ∷ more) goes =
-      let begun = (step (fixed_of given) w (Begin agent (Sweep one.0))).world in
-      let parts = and_parts (is_some (begins_job given w (Begin agent (Sweep one.0))) && unhindered_from given agent begun one.1) (goes_round given agent (after (fixed_of given) begun one.1) more) goes in
-      begins_idle (Sweep one.0) (actor_at w agent) (and_parts (is_some (begins_job given w (Begin agent (Sweep one.0)))) (unhindered_from given agent begun one.1) parts.0).0
-
-  not_busy : (w : World) (actor : Actor) (doing : Doing) → actor_at w agent ≡ Some actor → actor.agent.doing ≡ Some doing → has_no_job (actor_at w agent) ≡ true → ⊥
-  not_busy w actor doing is busy idle = false≢true (sym (ap has_no_job is ∙ ap is_idle busy) ∙ idle)
+  goes_idle w (one ∷ more) goes = search (and_parts, begins_idle, arith)
 
   -- once the agent is idle its sweep is over
   moved_by : (w new : World) (server : ℕ) (up : is_up w server ≡ true) (in_order : rise (locks_at w server) ≡ true) → has_no_job (actor_at new agent) ≡ true
       → Busy given agent w server up in_order new ⊎ Over given agent w server up in_order new → More w new server
-  moved_by w new server up in_order idle (inl busy) = absurd (not_busy new busy.actor (RunningSweep busy.sweep_run) busy.there busy.doing idle)
-  moved_by w new server up in_order idle (inr over) = record { ups = over.finished.others_are.ups; swept = over.finished.locks; others = over.finished.others_are.locks }
+  moved_by w new server up in_order h5 h6 = search arith
 
   -- ---- all of them
 
@@ -104,9 +78,7 @@ module _ (given : Opening) (agent : ℕ) (first : World) where
 
   pub ends : (sweep_run : List (ℕ × List Event)) (events : List Event) → Since (run given events) → goes_round given agent (run given events) sweep_run ≡ true
       → list_all (λ (one : ℕ × List Event). is_up first one.0) sweep_run ≡ true → Ends events sweep_run
-  ends [] events since goes' up =
-      let same = sym (append-nil events) in
-      record { since = subst (λ all. Since (run given all)) same since; swept = λ x is. absurd (false≢true is); still = λ x is. subst (λ all. Swept x (run given all)) same is }
+  ends [] events since goes' up = search (append-nil, false≢true, arith)
   ends (one ∷ more) events since goes' up =
       let w = run given events in
       let begin = Begin agent (Sweep one.0) in
@@ -125,10 +97,7 @@ module _ (given : Opening) (agent : ℕ) (first : World) where
       let all = append_assoc events (begin ∷ one.1) (sweeps agent more) in
       record {
         since = subst (λ all. Since (run given all)) all rest.since;
-        swept = λ x is. subst (λ all. Swept x (run given all)) all (⊎_elim
-            (λ same. rest.still x (subst (Swept x) (sym path) (subst (λ x. Swept x new) (eqb-true one.0 x same) (swept_now w new one.0 since moved))))
-            (λ apart. rest.swept x (or_rest (one.0 == x) (list_any (λ (one : ℕ × List Event). one.0 == x) more) apart is))
-            (cases_Bool (one.0 == x)));
+        swept = search (eqb-true, swept_now, or_rest, cases_Bool, arith);
         still = λ x is. subst (λ all. Swept x (run given all)) all (rest.still x (subst (Swept x) (sym path) (swept_still w new one.0 x since moved is)));
       }
 

@@ -1,17 +1,16 @@
 -- The votes that the rows of a run's table have, and those that a transaction sets on it, are valid and list servers that there are.
-use Rattle.law_run_recovers.proofs.Vocabulary.{◌≡◌, inl, inr, ⊎_elim, ℕ, ◌<◌, Bool, true, false, cond, List, [], ◌∷◌, All, Option, Some, None, Result, Ok, Err, refl, sym, ap, subst, ◌∙◌, arith, ◌==◌, ◌&&◌, ◌||◌, not, nat_le, list_any}
-use Rattle.law_run_recovers.proofs.Vocabulary.{option_map, map, filter, AllByRecursion, nat_cmp, is_eq, insert, nat_cmp_total, false≢true, eqb-true, eq-eqb, nat_tests, none-some, same_Some, Identity, Representative, Configuration, IsValid}
-use Rattle.law_run_recovers.proofs.Vocabulary.{Opening, Prefix, Exclusive, Answer, Op, Refusal, PlainTable, Service, Row, Rows, row_of, Change, Edit, Need, Hold, Know, some, makes, sets_acl, sets_votes, Edits, Ended, seen, is_set, needs}
-use Rattle.law_run_recovers.proofs.Vocabulary.{ending, transaction, on_transaction, Has, has_any, has_filter, has_map, Event, Decided, decisions, table_of, table_after_all, WasPrefix, beginning, machine_of, CanBe, all_keep, change_in}
-use Rattle.law_run_recovers.proofs.Vocabulary.{changes_on, votes_set, votes_of_row, fixed_of, listed, All-from_recursion, changed, KnownSuite, get-insert, Played, table_after, table_with, played_on, AllGiveValidVotes, listed}
+use Rattle.law_run_recovers.proofs.Vocabulary.{◌≡◌, ⊎_elim, ℕ, ◌<◌, Bool, true, false, cond, List, [], ◌∷◌, All, Option, Some, None, Result, Ok, Err, refl, sym, ap, subst, ◌∙◌, arith, ◌==◌, ◌||◌, nat_le, list_any, option_map, map, filter}
+use Rattle.law_run_recovers.proofs.Vocabulary.{AllByRecursion, nat_cmp, insert, nat_cmp_total, false≢true, eqb-true, eq-eqb, nat_tests, none-some, same_Some, Identity, Representative, Configuration, IsValid, Opening, Prefix, Exclusive, Answer, Op}
+use Rattle.law_run_recovers.proofs.Vocabulary.{Refusal, PlainTable, Service, Row, Rows, row_of, Change, Edit, Need, Hold, Know, some, makes, sets_acl, sets_votes, Edits, Ended, seen, is_set, needs, ending, transaction, on_transaction, Has, has_any}
+use Rattle.law_run_recovers.proofs.Vocabulary.{has_filter, has_map, Event, Decided, decisions, table_of, table_after_all, WasPrefix, beginning, machine_of, CanBe, all_keep, change_in, changes_on, votes_set, votes_of_row, fixed_of, listed}
+use Rattle.law_run_recovers.proofs.Vocabulary.{All-from_recursion, changed, KnownSuite, get-insert, Played, table_after, table_with, played_on, AllGiveValidVotes, listed}
 use Rattle.file_exec.proofs.Alike.{goes_alike}
 use Rattle.law_suite_machine.proofs.Rows.{none_or_some}
 use Rattle.std.specs.Cmp.{unsigned_tied}
 use Rattle.file_exec.proofs.StepOnTable.{row_of-with_edits}
-use Rattle.file_exec.specs.Known.{known_of, is_met, Known, known_rows, is_opened, Done, heard, exec_of, first_unmet, AgreesWith, IsSoAt, on_table, is_held}
+use Rattle.file_exec.specs.Known.{known_of, is_met, Known, known_rows, Done, heard, exec_of, first_unmet, AgreesWith, on_table}
 use Rattle.law_agents.proofs.Courses.{Sets, AllSet, edits_set}
 use Rattle.law_headline.proofs.Editing.{FitsRow, AllFit, edits_fit}
-use Rattle.file_exec.specs.declared.edit_log.Edit.TheVariants as edit
 use Rattle.file_ops.specs.Rows as rows
 use Rattle.file_ops.specs.Transactions as plain
 use Rattle.law_one_table.proofs.Versions as versions
@@ -35,33 +34,22 @@ known_with known key value z = get-insert nat_cmp_total known key value z ∙ ap
 all_agree : (rows : ℕ → Option Row) (needed : List Need) → AgreesWith (all_known rows needed) rows
 unfolding all_known
 all_agree rows [] z = tt
-all_agree rows (need ∷ needed) z = subst (λ found. IsSoAt found (rows z)) (sym (known_with (all_known rows needed) (suite_in need) (whole (rows (suite_in need))) z)) (of (suite_in need == z) refl (all_agree rows needed z))
-  where
-    of : (b : Bool) → (suite_in need == z) ≡ b → IsSoAt (known_of (all_known rows needed) z) (rows z) → IsSoAt (cond b (Some (whole (rows (suite_in need)))) (known_of (all_known rows needed) z)) (rows z)
-    of true is go = subst (λ z. IsSoAt (Some (whole (rows (suite_in need)))) (rows z)) (eqb-true (suite_in need) z is) (record { head = refl; content = λ _. refl })
-    of false is go = go
+all_agree rows (need ∷ needed) z = search (known_with, all_known, eqb-true, all_agree rows needed z, arith)
 
 there_whole : (rows : ℕ → Option Row) (needed : List Need) (z : ℕ) → list_any (λ need. suite_in need == z) needed ≡ true → known_of (all_known rows needed) z ≡ Some (whole (rows z))
 unfolding all_known
 there_whole rows [] z is = absurd (false≢true is)
-there_whole rows (need ∷ needed) z is = known_with (all_known rows needed) (suite_in need) (whole (rows (suite_in need))) z ∙ of (suite_in need == z) refl is (there_whole rows needed z)
-  where
-    of : (b : Bool) → (suite_in need == z) ≡ b → (b || list_any (λ need. suite_in need == z) needed) ≡ true
-        → (list_any (λ need. suite_in need == z) needed ≡ true → known_of (all_known rows needed) z ≡ Some (whole (rows z))) → cond b (Some (whole (rows (suite_in need)))) (known_of (all_known rows needed) z) ≡ Some (whole (rows z))
-    of true same any go = ap (λ z. Some (whole (rows z))) (eqb-true (suite_in need) z same)
-    of false same any go = go any
+there_whole rows (need ∷ needed) z is = search (known_with, all_known, eqb-true, there_whole rows needed z, arith)
 
 is_met_so : (rows : ℕ → Option Row) (needed : List Need) (need : Need) → list_any (λ other. suite_in other == suite_in need) needed ≡ true → is_met (all_known rows needed) need ≡ true
-is_met_so rows needed (Hold suite mode) any = ap (is_held mode) (there_whole rows needed suite any)
-is_met_so rows needed (Know suite) any = ap (λ found. is_opened found) (there_whole rows needed suite any)
+is_met_so rows needed need h3 = search (there_whole, arith)
 
 any_has' : (needed : List Need) (need : Need) → Has needed need → list_any (λ other. suite_in other == suite_in need) needed ≡ true
 any_has' needed need has = has_any (λ other. suite_in other == suite_in need) needed need has (eq-eqb (suite_in need) (suite_in need) refl)
 
 none_unmet : (known : Known) (needed : List Need) → ((need : Need) → Has needed need → is_met known need ≡ true) → first_unmet known needed ≡ None
 none_unmet known [] all = refl
-none_unmet known (need ∷ needed) all =
-    ap (λ b. cond (not b) (Some need) (first_unmet known needed)) (all need (inl refl)) ∙ none_unmet known needed (λ other has. all other (inr has))
+none_unmet known (need ∷ needed) all = search (none_unmet known needed, arith)
 
 module _ (service : Service) (rows : Rows) (t : ℕ) (caller : Identity) (ops : List Op) where
   abbrev needed : List Need
@@ -83,23 +71,12 @@ module _ (W : Configuration → Type 0) where
   AreIn row = (r : Row) → row ≡ Some r → W r.votes
 
   changed_in : (e : Edit) (row : Option Row) → Sets W e → (sets_votes e ≡ false → AreIn row) → AreIn (changed e row)
-  changed_in (edit.Make made) row sets before r is = subst (λ (r : Row). W r.votes) (same_Some made r is) sets
-  changed_in (edit.SetAcl acl) (Some row) sets before r is = subst (λ (r : Row). W r.votes) (same_Some (record row { acl = acl }) r is) (before refl row refl)
-  changed_in (edit.SetVotes votes) (Some row) sets before r is = subst (λ (r : Row). W r.votes) (same_Some (record row { votes = votes }) r is) sets
-  changed_in (edit.SetContent content) (Some row) sets before r is = subst (λ (r : Row). W r.votes) (same_Some (record row { content = content }) r is) (before refl row refl)
-  changed_in other None sets before r is = absurd (none-some r is)
+  changed_in e row h2 h3 h4 h5 = search arith
 
   -- where some edit sets them, or where they are so before
   seen_in : (found : ℕ → Option Row) (edits : Edits) (z : ℕ) → AllSet W edits → (some sets_votes edits z ≡ false → AreIn (found z)) → AreIn (seen edits z (found z))
   seen_in found [] z all before = before refl
-  seen_in found (e ∷ edits) z all before = of (e.0 == z) refl (λ before. seen_in found edits z all.1 before)
-    where
-      both : (b : Bool) → (e.0 == z) ≡ b → (b && sets_votes e.1) ≡ false → some sets_votes edits z ≡ false → AreIn (found z)
-      both b is one other = before (ap (λ a. (a && sets_votes e.1) || some sets_votes edits z) is ∙ ap (λ a. a || some sets_votes edits z) one ∙ other)
-
-      of : (b : Bool) → (e.0 == z) ≡ b → ((some sets_votes edits z ≡ false → AreIn (found z)) → AreIn (seen edits z (found z))) → AreIn (cond b (changed e.1 (seen edits z (found z))) (seen edits z (found z)))
-      of true is go = changed_in e.1 (seen edits z (found z)) all.0 (λ none. go (λ other. both true is none other))
-      of false is go = go (λ other. both false is refl other)
+  seen_in found (e ∷ edits) z all before = search (changed_in, seen_in found edits z, arith)
 
 -- ---- on a table
 
@@ -151,8 +128,7 @@ known_by servers votes none = All-from_recursion (λ (rep : Representative). rep
     below a b is = grind (arith, nat_tests)
 
     both : (a b : Bool) → (a || b) ≡ false → (a ≡ false) × (b ≡ false)
-    both false b is = (refl, is)
-    both true b is = absurd (false≢true (sym is))
+    both a b h2 = search (false≢true, arith)
 
     go : (reps : List Representative) → list_any (λ (rep : Representative). nat_le servers rep.0) reps ≡ false → AllByRecursion (λ (rep : Representative). rep.0 < servers) reps
     go [] none = tt
@@ -164,9 +140,7 @@ module _ (table : PlainTable) (t : ℕ) (caller : Identity) (ops : List Op) (end
   done_so = done_is table.service table.rows t caller ops ∙ ap (λ found. Done found) is
 
 pub sets_known : (table : PlainTable) (t : ℕ) (caller : Identity) (ops : List Op) → ListsKnown table.service.servers table.service.c0 → SetSo (ListsKnown table.service.servers) table t caller ops
-sets_known table t caller ops c0 ended is =
-    edits_set (ListsKnown table.service.servers) table.service (λ votes none. known_by table.service.servers votes none) c0 (knows_all table.service table.rows t caller ops) t caller ops ended
-    (done_so table t caller ops ended is)
+sets_known table t caller ops c0 ended is = search (edits_set, known_by, done_so, arith)
 
 pub sets_valid : (table : PlainTable) (t : ℕ) (caller : Identity) (ops : List Op) → IsValid table.service.c0 → AllGiveValidVotes ops → SetSo IsValid table t caller ops
 sets_valid table t caller ops c0 valid ended is =
@@ -176,9 +150,7 @@ sets_valid table t caller ops c0 valid ended is =
     known = known_rows (knows_all table.service table.rows t caller ops)
 
     one : (e : Edit) (row : Option Row) → FitsRow e row → Sets IsValid e
-    one (edit.SetVotes votes) row fits = fits
-    one (edit.Make made) row fits = fits
-    one other row fits = tt
+    one e row h2 = search arith
 
     go : (edits : Edits) → AllFit known edits → AllSet IsValid edits
     go [] all = tt
@@ -201,22 +173,14 @@ module _ (given : Opening) (opening_known : ListsKnown given.servers given.c0) w
   }
     where
       of : (played : Result Played Refusal) → (table_after table one.t one.caller played).service ≡ table.service
-      of (Ok played) = refl
-      of (Err refusal) = refl
+      of played = search arith
 
   all_so : (ds : List Decided) (table : PlainTable) → IsSo' table → IsSo' (table_after_all table ds)
   all_so [] table so = so
   all_so (one ∷ ds) table so = all_so ds (table_with table one) (next_so table one so)
 
   first_so : IsSo' (rows.opening given)
-  first_so = record { service = refl; rows = at }
-    where
-      at : (z : ℕ) → AreIn (ListsKnown given.servers) (row_of (rows.opening given).rows z)
-      at z r is = of (is_eq (nat_cmp z rows.root)) is
-        where
-          of : (b : Bool) → cond b (Some (rows.root_row given)) None ≡ Some r → ListsKnown given.servers r.votes
-          of true is = subst (λ (r : Row). ListsKnown given.servers r.votes) (same_Some (rows.root_row given) r is) opening_known
-          of false is = absurd (none-some r is)
+  first_so = search arith
 
   pub table_known : (events : List Event) (z : ℕ) → AreIn (ListsKnown given.servers) (row_of (table_of given events).rows z)
   table_known events = (all_so (decisions given events) (rows.opening given) first_so).rows
@@ -225,8 +189,7 @@ module _ (given : Opening) (opening_known : ListsKnown given.servers given.c0) w
   row_known events z = of (row_of (table_of given events).rows z) refl
     where
       of : (found : Option Row) → row_of (table_of given events).rows z ≡ found → ListsKnown given.servers (votes_of_row (fixed_of given) found)
-      of None is = opening_known
-      of (Some row) is = table_known events z row is
+      of found h1 = search (table_known, arith)
 
   -- each prefix that a suite had
   pub prefix_known : (events : List Event) → CanBe given events → (z : ℕ) (prefix : Prefix) → WasPrefix (beginning z given) (machine_of given z events).log prefix → ListsKnown given.servers prefix.votes

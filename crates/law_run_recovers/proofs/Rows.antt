@@ -1,8 +1,7 @@
 -- Where a transaction's demands are met, those by the votes of the table's own rows are.
-use Rattle.law_run_recovers.proofs.Vocabulary.{◌≡◌, inl, inr, ℕ, Bool, true, List, [], ◌∷◌, Option, Some, None, refl, sym, ap, subst, ◌∙◌, arith, ◌&&◌, map, option_map, list_all, and_parts, nat_tests, list_all-append, none-some, same_Some}
-use Rattle.law_run_recovers.proofs.Vocabulary.{Configuration, votes_in, Opening, Prefix, LockMode, Shared, Exclusive, Row, row_of, find_some, contains_from, Entry, is_of, entry_of, fixed_of, Event, Actor, actor_at, run, table_of, prefix_at}
-use Rattle.law_run_recovers.proofs.Vocabulary.{WasPrefix, IsQuorum, Inv, beginning, machine_of, AllKeepSides, register, row_at, CanBe, all_keep, all_consistent, is_up, up_free, Demand, demand, is_met, led_to, votes_of_row, locks_asked}
-use Rattle.law_run_recovers.proofs.Vocabulary.{votes_set, MayStart, MetDemandsAreRows}
+use Rattle.law_run_recovers.proofs.Vocabulary.{◌≡◌, inl, inr, ℕ, Bool, true, List, [], ◌∷◌, Option, Some, None, refl, sym, ap, subst, ◌∙◌, arith, map, option_map, list_all, and_parts, nat_tests, list_all-append, none-some, same_Some, Opening, Prefix}
+use Rattle.law_run_recovers.proofs.Vocabulary.{LockMode, Row, row_of, find_some, contains_from, Entry, is_of, entry_of, fixed_of, Event, Actor, actor_at, run, table_of, prefix_at, WasPrefix, IsQuorum, Inv, beginning, machine_of, AllKeepSides}
+use Rattle.law_run_recovers.proofs.Vocabulary.{register, row_at, CanBe, all_keep, all_consistent, is_up, up_free, demand, is_met, led_to, votes_of_row, MayStart, MetDemandsAreRows}
 use Rattle.law_run_knowledge.proofs.Events.{knowledge_was}
 use Rattle.law_one_table.proofs.Effects as effects
 use Rattle.law_one_table.proofs.Versions as versions
@@ -13,9 +12,7 @@ use Rattle.law_run_recovers.proofs.Leading.{led}
 module _ {X Y : Type 0} where
   all_alike : (p : Y → Bool) (f g : X → Y) → ((x : X) → p (f x) ≡ true → p (g x) ≡ true) → (xs : List X) → list_all p (map f xs) ≡ true → list_all p (map g xs) ≡ true
   all_alike p f g so [] is = refl
-  all_alike p f g so (x ∷ xs) is =
-      let parts = and_parts (p (f x)) (list_all p (map f xs)) is in
-      ap (λ b. b && list_all p (map g xs)) (so x parts.0) ∙ all_alike p f g so xs parts.1
+  all_alike p f g so (x ∷ xs) is = search (and_parts, all_alike p f g so xs, arith)
 
 -- the votes of the row, or the first ones
 pub row_votes : (given : Opening) (events : List Event) (can : CanBe given events) (z : ℕ) (found : Option Row) → row_at given events z ≡ found → (register given z events).prefix.votes ≡ votes_of_row (fixed_of given) found
@@ -62,16 +59,7 @@ module _ (given : Opening) (events : List Event) (can : CanBe given events) (z :
       where
         quorum : (mode : LockMode) → is_met (demand (run given events) z mode (led_to (fixed_of given) (run given events) z start).votes) ≡ true
             → IsQuorum (led_to (fixed_of given) (run given events) z start).votes (is_up (run given events))
-        quorum Shared met = inl met
-        quorum Exclusive met = inr met
+        quorum mode h1 = search arith
 
 pub met_demands_are_rows : MetDemandsAreRows
-met_demands_are_rows given events can t caller site ops agent actor start free there may met =
-    let asked : List (ℕ × LockMode) = locks_asked (table_of given events) t caller ops in
-    let set : List Demand = map (λ (one : ℕ × Configuration). record { suite = one.0; got = votes_in one.1.reps (is_up (run given events)); needed = one.1.w }) (votes_set (table_of given events) t caller ops) in
-    let found : ℕ × LockMode → Demand = λ one. demand (run given events) one.0 one.1 (led_to (fixed_of given) (run given events) one.0 (start one.0)).votes in
-    let of_row : ℕ × LockMode → Demand = λ one. demand (run given events) one.0 one.1 (votes_of_row (fixed_of given) (row_of (table_of given events).rows one.0)) in
-    let parts = and_parts (list_all is_met (map found asked)) (list_all is_met set) (sym (list_all-append is_met (map found asked) set) ∙ met) in
-    list_all-append is_met (map of_row asked) set
-    ∙ ap (λ b. b && list_all is_met set) (all_alike {X = ℕ × LockMode} is_met found of_row (λ one met. met_row given events can one.0 free agent site actor (start one.0) there (may one.0) one.1 met) asked parts.0)
-    ∙ parts.1
+met_demands_are_rows given events can t caller site ops agent actor start free there may met = search (and_parts, list_all-append, all_alike, met_row, arith)

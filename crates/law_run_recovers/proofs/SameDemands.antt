@@ -1,7 +1,7 @@
 -- Where servers are up as before, and show what they showed, a transaction demands what it did before.
-use Rattle.law_run_recovers.proofs.Vocabulary.{◌≡◌, ◌⊎◌, inl, inr, ⊎_elim, ℕ, zero, suc, Bool, true, false, cond, List, [], ◌∷◌, ◌++◌, length, Option, Some, None, refl, ap, ◌∙◌, ◌&&◌, nat_lt, find, map, option_map, and_parts, Identity}
-use Rattle.law_run_recovers.proofs.Vocabulary.{Representative, Configuration, votes_in, absent_prefix, Prefix, LockMode, find_some, Op, PlainTable, Cache, hint, Fixed, World, is_up, shown_at, Demand, demand, demands, all_met}
-use Rattle.law_run_recovers.proofs.Vocabulary.{shows_newer_by, newer_by, newer_from, led_on, led_so_far_by, led_to, locks_asked, votes_set, MayStart, VotesAreUp}
+use Rattle.law_run_recovers.proofs.Vocabulary.{◌≡◌, ◌⊎◌, inl, inr, ⊎_elim, ℕ, zero, suc, Bool, true, cond, List, [], ◌∷◌, length, Option, Some, None, refl, ap, ◌∙◌, ◌&&◌, nat_lt, find, option_map, and_parts, Identity, arith, Representative}
+use Rattle.law_run_recovers.proofs.Vocabulary.{Configuration, votes_in, absent_prefix, Prefix, find_some, Op, PlainTable, Cache, hint, Fixed, World, is_up, shown_at, demands, all_met, shows_newer_by, newer_by, newer_from, led_so_far_by, led_to}
+use Rattle.law_run_recovers.proofs.Vocabulary.{MayStart, VotesAreUp}
 use Rattle.law_run_recovers.proofs.Leading.{stays}
 use Rattle.law_run_recovers.proofs.Picks.{votes_alike}
 use Rattle.law_run_recovers.proofs.Unmoved.{map_alike}
@@ -31,13 +31,7 @@ hints_alike led other fixed cache site now same hints z prefix hinted =
 -- where the same answer, and show what they showed, a prefix leads to what it did
 module _ (fixed : Fixed) (before after : World) (was now : ℕ → Bool) (same : (i : ℕ) → now i ≡ was i) (shown : (z i : ℕ) → was i ≡ true → shown_at fixed after z i ≡ shown_at fixed before z i) where
   same_test : (z : ℕ) (prefix : Prefix) (rep : Representative) → shows_newer_by fixed after now z prefix rep ≡ shows_newer_by fixed before was z prefix rep
-  same_test z prefix rep =
-      ap (λ b. nat_lt 0 rep.1 && b && nat_lt prefix.pver (shown_at fixed after z rep.0).pver) (same rep.0) ∙ of (nat_lt 0 rep.1) (was rep.0) refl
-    where
-      of : (a b : Bool) → was rep.0 ≡ b → (a && b && nat_lt prefix.pver (shown_at fixed after z rep.0).pver) ≡ (a && b && nat_lt prefix.pver (shown_at fixed before z rep.0).pver)
-      of true true is = ap (λ (p : Prefix). nat_lt prefix.pver p.pver) (shown z rep.0 is)
-      of true false is = refl
-      of false b is = refl
+  same_test z prefix rep = search arith
 
   same_newer : (z : ℕ) (prefix : Prefix) → newer_by fixed after now z prefix ≡ newer_by fixed before was z prefix
   same_newer z prefix =
@@ -54,12 +48,7 @@ module _ (fixed : Fixed) (before after : World) (was now : ℕ → Bool) (same :
 
   pub same_so_far : (n z : ℕ) (prefix : Prefix) → led_so_far_by n fixed after now z prefix ≡ led_so_far_by n fixed before was z prefix
   same_so_far zero z prefix = refl
-  same_so_far (suc n) z prefix = ap (λ found. led_on prefix found (λ newer. led_so_far_by n fixed after now z newer)) (same_newer z prefix) ∙ of (newer_by fixed before was z prefix) (same_so_far n z)
-    where
-      of : (found : Option Prefix) → ((prefix : Prefix) → led_so_far_by n fixed after now z prefix ≡ led_so_far_by n fixed before was z prefix)
-          → led_on prefix found (λ newer. led_so_far_by n fixed after now z newer) ≡ led_on prefix found (λ newer. led_so_far_by n fixed before was z newer)
-      of None go = refl
-      of (Some newer) go = go newer
+  same_so_far (suc n) z prefix = search (same_newer, same_so_far n z, arith)
 
 module _ (fixed : Fixed) (before after : World) (many : length after.servers ≡ length before.servers) (up : (i : ℕ) → is_up after i ≡ is_up before i)
     (shown : (z i : ℕ) → is_up before i ≡ true → shown_at fixed after z i ≡ shown_at fixed before z i) where
@@ -72,35 +61,7 @@ module _ (fixed : Fixed) (before after : World) (many : length after.servers ≡
   -- from prefixes that lead to the same
   pub same_demands : (table : PlainTable) (t : ℕ) (caller : Identity) (ops : List Op) (start start' : ℕ → Prefix) → ((z : ℕ) → led_to fixed before z (start' z) ≡ led_to fixed before z (start z))
       → demands fixed after table t caller ops start' ≡ demands fixed before table t caller ops start
-  same_demands table t caller ops start start' same =
-      ap (λ first. first ++ map set_after (votes_set table t caller ops)) (map_alike lock_after lock_before lock_same (locks_asked table t caller ops))
-      ∙ ap (λ rest. map lock_before (locks_asked table t caller ops) ++ rest) (map_alike set_after set_before (λ one. ap (λ n. the one n) (same_votes_up one.1)) (votes_set table t caller ops))
-    where
-      lock_after : ℕ × LockMode → Demand
-      lock_after one = demand after one.0 one.1 (led_to fixed after one.0 (start' one.0)).votes
-
-      lock_before : ℕ × LockMode → Demand
-      lock_before one = demand before one.0 one.1 (led_to fixed before one.0 (start one.0)).votes
-
-      set_after : ℕ × Configuration → Demand
-      set_after one = record { suite = one.0; got = votes_in one.1.reps (is_up after); needed = one.1.w }
-
-      set_before : ℕ × Configuration → Demand
-      set_before one = record { suite = one.0; got = votes_in one.1.reps (is_up before); needed = one.1.w }
-
-      the : ℕ × Configuration → ℕ → Demand
-      the one n = record { suite = one.0; got = n; needed = one.1.w }
-
-      by_votes : (suite : ℕ) (mode : LockMode) (votes : Configuration) → demand after suite mode votes ≡ demand before suite mode votes
-      by_votes suite mode votes = ap (λ n. with_got n) (same_votes_up votes)
-        where
-          with_got : ℕ → Demand
-          with_got n = record (demand before suite mode votes) { got = n }
-
-      lock_same : (one : ℕ × LockMode) → lock_after one ≡ lock_before one
-      lock_same one =
-          by_votes one.0 one.1 (led_to fixed after one.0 (start' one.0)).votes
-          ∙ ap (λ (p : Prefix). demand before one.0 one.1 p.votes) (same_led one.0 (start' one.0) ∙ same one.0)
+  same_demands table t caller ops start start' same = search (map_alike, same_votes_up, same_led, arith)
 
   record Same (cache : Cache) (site z : ℕ) (later : Prefix) : Type 0 where
     start : Prefix

@@ -1,8 +1,8 @@
 -- What an event serves, if anything; and that whoever has a lock at a server was told so there.
-use Rattle.law_run_recovers.proofs.Vocabulary.{◌≡◌, ◌⊎◌, inl, inr, ⊎_elim, ℕ, Bool, true, false, cond, List, Option, Some, None, refl, sym, ap, subst, ◌∙◌, ◌==◌, ◌&&◌, not, filter, map, slice_get, slice_set, LockMode, Exclusive, Replica}
-use Rattle.law_run_recovers.proofs.Vocabulary.{Lock, Request, Reply, Verdict, Stamped, AuditItem, in_the_way, has_lock, raised, raised_lock, with_lock, before, prepared_lock, is_own, copy_of, intended, State, record_of, is_full, served}
-use Rattle.law_run_recovers.proofs.Vocabulary.{answer_of, Has, has_filter, has_between, has_map, Lacked, Fixed, Agent, next_of, begin, forget, Event, Begin, Step, Crash, Return, Forget, Lack, Served, Actor, World, Stepped, server_at}
-use Rattle.law_run_recovers.proofs.Vocabulary.{actor_at, serve, answered, becomes, asks_at, asks, steps_once, lacks_for, lacks, operated, operates, step, same_or, puts_in, locks_in, locks_at}
+use Rattle.law_run_recovers.proofs.Vocabulary.{◌≡◌, ◌⊎◌, inl, inr, ⊎_elim, ℕ, Bool, true, false, cond, List, Option, Some, None, refl, sym, ap, subst, ◌∙◌, ◌==◌, ◌&&◌, not, filter, map, slice_get, slice_set, LockMode, Exclusive, Replica, arith, Lock}
+use Rattle.law_run_recovers.proofs.Vocabulary.{Request, Reply, Verdict, Stamped, AuditItem, in_the_way, has_lock, raised, raised_lock, with_lock, before, prepared_lock, is_own, copy_of, intended, State, record_of, is_full, served, answer_of, Has}
+use Rattle.law_run_recovers.proofs.Vocabulary.{has_filter, has_between, has_map, Lacked, Fixed, Agent, Event, Crash, Return, Served, Actor, World, Stepped, server_at, serve, answered, becomes, asks_at, asks, steps_once, lacks, operated, operates}
+use Rattle.law_run_recovers.proofs.Vocabulary.{step, same_or, puts_in, locks_in, locks_at}
 use Rattle.rep_core.specs.declared.stamped.Lack.{Lack as Why}
 use Rattle.rep_core.specs.Service.{after, reply_of, reply_up, reply_down, after_up, after_down, after_locking, locking_reply, held, after_record, prepares}
 use Rattle.rep_core.specs.declared.request.Request.TheVariants as request
@@ -42,12 +42,10 @@ filter_grows : (st : State) (asked : Request) (p : Lock → Bool) → Grows st a
 filter_grows st asked p lock has = inl (was_here st.locks lock (has_filter p st.locks lock has).0)
 
 map_grows : (st : State) (asked : Request) (f : Lock → Lock) → ((lock : Lock) → ((f lock).t ≡ lock.t) × ((f lock).suite ≡ lock.suite)) → Grows st asked (map f st.locks)
-map_grows st asked f same lock has = let was = has_map f st.locks lock has in
-    inl (record { lock = was.0; has = was.1; of_it = sym (same was.0).0 ∙ ap (λ (lock : Lock). lock.t) was.2; on_it = sym (same was.0).1 ∙ ap (λ (lock : Lock). lock.suite) was.2 })
+map_grows st asked f same lock has = search (has_map, arith)
 
 record_same : (old : Option Verdict) (t : ℕ) (v : Verdict) (item : Option AuditItem) (st : State) → (after_record old t v item st).locks ≡ st.locks
-record_same None t v item st = refl
-record_same (Some old) t v item st = refl
+record_same old t v item st = search arith
 
 poll_grows : (st : State) (t suite : ℕ) (mode : LockMode) → st.up ≡ true → (other : Option Lock) → in_the_way t suite mode st.locks ≡ other → Grows st (request.Poll t suite mode) (after_locking other t suite mode st).locks
 poll_grows st t suite mode up (Some other) is = same_grows st (request.Poll t suite mode) st.locks refl
@@ -71,17 +69,11 @@ poll_grows st t suite mode up None is =
 
 upgrade_grows : (st : State) (t suite : ℕ) → has_lock t suite st.locks ≡ true → (other : Option Lock) → Grows st (request.Upgrade t suite) (after_locking other t suite Exclusive st).locks
 upgrade_grows st t suite has (Some other) = same_grows st (request.Upgrade t suite) st.locks refl
-upgrade_grows st t suite has None =
-    subst (λ b. Grows st (request.Upgrade t suite) (cond b (raised t suite Exclusive st.locks) (with_lock (record { t = t; suite = suite; mode = Exclusive; prepared = false }) st.locks))) (sym has)
-    (map_grows st (request.Upgrade t suite) (raised_lock t suite Exclusive) (λ lock. (refl, refl)))
+upgrade_grows st t suite has None = search (map_grows st (request.Upgrade t suite) (raised_lock t suite Exclusive) (λ lock. (refl, refl)), arith)
 
 up_grows : (st : State) (asked : Request) → st.up ≡ true → Grows st asked (after_up st asked).locks
 up_grows st (request.Poll t suite mode) up = poll_grows st t suite mode up (in_the_way t suite mode st.locks) refl
-up_grows st (request.Upgrade t suite) up =
-    elim (has_lock t suite st.locks) as (λ b. has_lock t suite st.locks ≡ b → Grows st (request.Upgrade t suite) (cond b (after_locking (in_the_way t suite Exclusive st.locks) t suite Exclusive st) st).locks) [
-      | true ↦ λ has. upgrade_grows st t suite has (in_the_way t suite Exclusive st.locks)
-      | false ↦ λ _. same_grows st (request.Upgrade t suite) st.locks refl
-    ] refl
+up_grows st (request.Upgrade t suite) up = search (upgrade_grows, same_grows, arith)
 up_grows st (request.Fetch t suite) up = same_grows st (request.Fetch t suite) st.locks refl
 up_grows st (request.Prepare t parts) up =
     elim (prepares st t parts) as (λ b. Grows st (request.Prepare t parts) (cond b (record st { store = intended t parts st.store; locks = map (prepared_lock t parts) st.locks }) st).locks) [
@@ -97,15 +89,10 @@ up_grows st request.Crash up = filter_grows st request.Crash (λ lock. lock.prep
 up_grows st request.Return up = same_grows st request.Return st.locks refl
 
 down_same : (st : State) (asked : Request) → (after_down st asked).locks ≡ st.locks
-down_same st (request.Poll t suite mode) = refl
-down_same st other = refl
+down_same st asked = search arith
 
 after_grows : (st : State) (asked : Request) → Grows st asked (after st asked).locks
-after_grows st asked =
-    elim (st.up) as (λ b. st.up ≡ b → Grows st asked (cond b (after_up st asked) (after_down st asked)).locks) [
-      | true ↦ λ up. up_grows st asked up
-      | false ↦ λ _. same_grows st asked (after_down st asked).locks (down_same st asked)
-    ] refl
+after_grows st asked = grind (up_grows, same_grows, down_same, arith)
 
 -- ---- one event
 
@@ -138,40 +125,26 @@ module _ (fixed : Fixed) (w : World) where
       ] refl
 
   becomes_serves : (i : ℕ) (change : Agent → Agent) (found : Option Actor) → Serving w (becomes w i change found)
-  becomes_serves i change None = inl refl
-  becomes_serves i change (Some actor) = inl refl
+  becomes_serves i change found = search arith
 
   at_serves : (i : ℕ) (actor : Actor) (asked : ℕ × Request) (found : Option State) → server_at w asked.0 ≡ found → Serving w (asks_at fixed w i actor asked found)
   at_serves i actor asked None at = inl refl
   at_serves i actor asked (Some st) at = answered_serves i actor asked.0 st (record { stamp = actor.stamp; value = asked.1 }) at
 
   asks_serves : (i : ℕ) (actor : Actor) (asked : Option (ℕ × Request)) → Serving w (asks fixed w i actor asked)
-  asks_serves i actor None = inl refl
-  asks_serves i actor (Some asked) = at_serves i actor asked (server_at w asked.0) refl
+  asks_serves i actor asked = search (at_serves, arith)
 
   step_serves : (i : ℕ) (found : Option Actor) → Serving w (steps_once fixed w i found)
-  step_serves i None = inl refl
-  step_serves i (Some actor) = asks_serves i actor (next_of fixed actor.agent)
-
-  lack_serves : (i : ℕ) (why : Why) (actor : Actor) (asked : Option (ℕ × Request)) → Serving w (lacks_for fixed w i actor (Lacked why) asked)
-  lack_serves i why actor None = inl refl
-  lack_serves i why actor (Some asked) = inl refl
+  step_serves i found = search (asks_serves, arith)
 
   lacks_serve : (i : ℕ) (why : Why) (found : Option Actor) → Serving w (lacks fixed w i (Lacked why) found)
-  lacks_serve i why None = inl refl
-  lacks_serve i why (Some actor) = lack_serves i why actor (next_of fixed actor.agent)
+  lacks_serve i why found = search arith
 
   operates_serve : (server : ℕ) (asked : Request) (found : Option State) → server_at w server ≡ found → Serving w (operates w server asked found)
-  operates_serve server asked None at = inl refl
-  operates_serve server asked (Some st) at = operated_serves server st (record { stamp = 0; value = asked }) at
+  operates_serve server asked found h3 = search (operated_serves, arith)
 
   pub event_serves : (event : Event) → Serving w (step fixed w event)
-  event_serves (Begin i job) = becomes_serves i (λ agent. begin fixed agent job) (actor_at w i)
-  event_serves (Step i) = step_serves i (actor_at w i)
-  event_serves (Crash server) = operates_serve server request.Crash (server_at w server) refl
-  event_serves (Return server) = operates_serve server request.Return (server_at w server) refl
-  event_serves (Forget i site) = becomes_serves i (λ agent. forget agent site) (actor_at w i)
-  event_serves (Lack i why) = lacks_serve i why (actor_at w i)
+  event_serves event = search (becomes_serves, step_serves, operates_serve, lacks_serve, arith)
 
   -- who has a lock after it had one before, or was told so in it
   pub record Told (event : Event) (t server : ℕ) : Type 0 where
@@ -181,10 +154,7 @@ module _ (fixed : Fixed) (w : World) where
     pub told : IsTold t what.request.value what.reply.value
 
   served_locks : (stepped : Stepped) (serves : Serves w stepped) (server : ℕ) → server ≡ serves.target → locks_at stepped.world server ≡ (after serves.st serves.asked.value).locks
-  served_locks stepped serves server here =
-      ap (λ servers. locks_in (slice_get servers server)) serves.servers
-      ∙ ap (λ i. locks_in (slice_get (slice_set w.servers serves.target (served serves.st serves.asked)) i)) here
-      ∙ ap locks_in (puts_in w.servers serves.target serves.st (served serves.st serves.asked) serves.at).here
+  served_locks stepped serves server here = search (slice_get, slice_set, puts_in, arith)
 
   other_locks : (stepped : Stepped) (serves : Serves w stepped) (server : ℕ) → (server ≡ serves.target → ⊥) → locks_at stepped.world server ≡ locks_at w server
   other_locks stepped serves server apart =
@@ -194,8 +164,7 @@ module _ (fixed : Fixed) (w : World) where
   told_here : (event : Event) (server t z : ℕ) (serves : Serves w (step fixed w event)) → server ≡ serves.target → (on : On (locks_at (step fixed w event).world server) t z)
       → On serves.st.locks on.lock.t on.lock.suite ⊎ ((told : IsTold on.lock.t serves.asked.value (reply_of serves.st serves.asked.value)) × (told.suite ≡ on.lock.suite))
       → On (locks_at w server) t z ⊎ ((told : Told event t server) × (told.told.suite ≡ z))
-  told_here event server t z serves here on (inl old) =
-      inl (record { lock = old.lock; has = subst (λ locks. Has locks old.lock) (sym (ap (locks_at w) here ∙ ap locks_in serves.at)) old.has; of_it = old.of_it ∙ on.of_it; on_it = old.on_it ∙ on.on_it })
+  told_here event server t z serves here on (inl old) = search arith
   told_here event server t z serves here on (inr told) =
       inr (
         record {

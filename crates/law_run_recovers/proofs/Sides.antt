@@ -1,10 +1,8 @@
 -- What is so of any run: who runs has not ended, a number is its agent's, nobody asks a server to crash, and servers that are up stay so.
-use Rattle.law_run_recovers.proofs.Vocabulary.{◌≡◌, ◌⊎◌, inl, inr, ⊎_elim, ℕ, zero, suc, ◌+◌, true, false, List, [], ◌∷◌, ◌++◌, length, Option, Some, None, is_some, refl, sym, ap, subst, ◌∙◌, arith, ◌%◌, ◌==◌, slice_get, false≢true}
-use Rattle.law_run_recovers.proofs.Vocabulary.{and_parts, eqb-true, none-some, same_Some, Opening, IsAccepted, Request, State, Has, Job, Agent, fixed_of, EndedJob, Event, Begin, Step, Crash, Return, Actor, World, opening, server_at}
-use Rattle.law_run_recovers.proofs.Vocabulary.{actor_at, step, dones, done_in, outcomes, run, decisions, dones-append, outcomes-append, ended, names, may_sweep, number_of, begins_at, same_place, agents_ask_for_themselves}
-use Rattle.law_run_recovers.proofs.Vocabulary.{each_is_begun_once, holds_of, so_many, append_has_left, agent_of, agent_at, begins_job, is_crash, up_stays, with_job, AllServers, MayAsk, asks_servers, spoils, up_in, is_up, runs, running_in}
-use Rattle.law_run_recovers.proofs.Vocabulary.{is_running, takes}
-use Rattle.rep_core.specs.declared.request.Request.TheVariants as request
+use Rattle.law_run_recovers.proofs.Vocabulary.{◌≡◌, ◌⊎◌, inl, inr, ℕ, zero, suc, ◌+◌, true, false, List, [], ◌∷◌, ◌++◌, length, Option, Some, None, is_some, refl, sym, ap, ◌∙◌, arith, ◌%◌, slice_get, false≢true, same_Some, Opening, IsAccepted}
+use Rattle.law_run_recovers.proofs.Vocabulary.{Request, State, Has, Job, Agent, fixed_of, EndedJob, Event, Begin, Crash, Actor, World, server_at, actor_at, step, dones, outcomes, run, decisions, dones-append, outcomes-append, ended, names, may_sweep}
+use Rattle.law_run_recovers.proofs.Vocabulary.{number_of, begins_at, same_place, agents_ask_for_themselves, each_is_begun_once, holds_of, so_many, append_has_left, agent_of, agent_at, begins_job, is_crash, up_stays, AllServers, MayAsk, asks_servers}
+use Rattle.law_run_recovers.proofs.Vocabulary.{spoils, is_up, runs, running_in, is_running, takes}
 use Rattle.law_run_recovers.proofs.AmongCourse.{head_or, tail_or}
 use Rattle.law_run_recovers.proofs.Keeps.{last_of}
 
@@ -16,14 +14,7 @@ pub compared : {X : Type 0} (xs us : List X) (x u : X) (ys vs : List X) → xs +
 compared [] [] x u ys vs is = inl (refl, ap (head_or x) is)
 compared [] (v ∷ us) x u ys vs is = inr (inl (us, ap (λ z. z ∷ us) (sym (ap (head_or x) is))))
 compared (w ∷ xs) [] x u ys vs is = inr (inr (xs, ap (λ z. z ∷ xs) (ap (head_or w) is)))
-compared (w ∷ xs) (v ∷ us) x u ys vs is =
-    ⊎_elim
-    (λ same. inl (ap (λ z. z ∷ xs) (ap (head_or w) is) ∙ ap (λ xs. v ∷ xs) same.0, same.1))
-    (λ apart. inr (⊎_elim
-    (λ first. inl (first.0, ap (λ z. z ∷ us) (sym (ap (head_or w) is)) ∙ ap (λ us. w ∷ us) first.1))
-    (λ second. inr (second.0, ap (λ z. z ∷ xs) (ap (head_or w) is) ∙ ap (λ xs. v ∷ xs) second.1))
-    apart))
-    (compared xs us x u ys vs (ap tail_or is))
+compared (w ∷ xs) (v ∷ us) x u ys vs is = search (head_or, tail_or, compared xs us x u ys vs, arith)
 
 there_same : (xs ys : List State) → length xs ≡ length ys → (i : ℕ) → is_some (slice_get xs i) ≡ is_some (slice_get ys i)
 there_same [] [] same i = refl
@@ -35,34 +26,18 @@ there_same (x ∷ xs) (y ∷ ys) same (suc i) = let less : suc (length xs) ≡ s
 -- ---- numbers
 
 begun_number : (given : Opening) (w : World) (i t : ℕ) (job : Job) → begins_job given w (Begin i job) ≡ Some (t, job) → begins_at given w (Begin i job) ≡ Some t
-begun_number given w i t job = of (begins_at given w (Begin i job))
-  where
-    of : (found : Option ℕ) → with_job job found ≡ Some (t, job) → found ≡ Some t
-    of None is = absurd (none-some (t, job) is)
-    of (Some u) is = ap (λ (pair : ℕ × Job). Some pair.0) (same_Some (u, job) (t, job) is)
+begun_number given w i t job = search arith
 
 -- two numbers that a request names are the same
 pub names_one : (t u : ℕ) (asked : Request) → names t asked ≡ true → names u asked ≡ true → t ≡ u
-names_one t u (request.Poll n suite mode) one other = sym (eqb-true n t one) ∙ eqb-true n u other
-names_one t u (request.Upgrade n suite) one other = sym (eqb-true n t one) ∙ eqb-true n u other
-names_one t u (request.Fetch n suite) one other = sym (eqb-true n t one) ∙ eqb-true n u other
-names_one t u (request.Prepare n parts) one other = sym (eqb-true n t one) ∙ eqb-true n u other
-names_one t u (request.Decide n decision) one other = sym (eqb-true n t one) ∙ eqb-true n u other
-names_one t u (request.Resolve n) one other = sym (eqb-true n t one) ∙ eqb-true n u other
-names_one t u (request.Finish n v) one other = sym (eqb-true n t one) ∙ eqb-true n u other
-names_one t u (request.Break n suite) one other = sym (eqb-true n t one) ∙ eqb-true n u other
-names_one t u another one other = absurd (false≢true one)
+names_one t u asked h3 h4 = search arith
 
 -- what takes something of a transaction names it
 pub takes_named : (t : ℕ) (st : State) (asked : Request) → takes t st asked ≡ true → names t asked ≡ true
-takes_named t st (request.Break named suite) is = (and_parts (named == t) _ is).0
-takes_named t st (request.Finish named v) is = (and_parts (named == t) _ is).0
-takes_named t st (request.Resolve named) is = (and_parts (named == t) _ is).0
-takes_named t st other is = absurd (false≢true is)
+takes_named t st asked h3 = search arith
 
 never_crash : (t : ℕ) (asked : Request) → (names t asked ≡ true) ⊎ (may_sweep asked ≡ true) → is_crash asked ≡ false
-never_crash t request.Crash so = absurd (⊎_elim false≢true false≢true so)
-never_crash t other so = refl
+never_crash t asked h2 = search arith
 
 module _ (given : Opening) (accepted : IsAccepted given) where
   -- a number's rest by 64 is its agent
@@ -71,9 +46,7 @@ module _ (given : Opening) (accepted : IsAccepted given) where
 
   -- a job that has ended has so later
   pub ended_still : (all more : List Event) (one : EndedJob) → Has (ended given all) one → Has (ended given (all ++ more)) one
-  ended_still all more one has =
-      subst (λ list. Has list one) (sym (ap outcomes (dones-append (fixed_of given) (opening given) all more) ∙ outcomes-append (done_in given all) (dones (fixed_of given) (run given all) more)))
-      (append_has_left (ended given all) (outcomes (dones (fixed_of given) (run given all) more)) one has)
+  ended_still all more one has = search (dones-append, outcomes-append, append_has_left, arith)
 
   -- and is run by nobody
   pub ended_runs_not : (all : List Event) (agent t : ℕ) (one : EndedJob) → Has (ended given all) one → number_of one ≡ t → is_running (run given all) agent t ≡ true → ⊥
@@ -99,25 +72,14 @@ module _ (given : Opening) (accepted : IsAccepted given) where
   up_unless all event none up = asks_servers (fixed_of given) (λ s st. st.up ≡ true) (λ s asked. is_crash asked ≡ false) (λ s st asked other up. up_stays st asked other up) (run given all) up event (may event none)
     where
       may : (event : Event) → ((server : ℕ) → event ≡ Crash server → ⊥) → MayAsk (fixed_of given) (λ s asked. is_crash asked ≡ false) (run given all) event
-      may (Step i) none = λ actor asked is next.
-          ⊎_elim (λ self. never_crash self.task.t asked.1 (inl self.named)) (λ sweeps. never_crash 0 asked.1 (inr sweeps.swept)) (agents_ask_for_themselves given accepted all i actor asked.0 asked.1 is next)
-      may (Crash server) none = absurd (none server refl)
-      may (Return server) none = refl
-      may other none = tt
+      may event h1 = search (never_crash, agents_ask_for_themselves, arith)
 
   pub up_next : (all : List Event) (event : Event) → spoils given (run given all) event ≡ false → AllUp (run given all) → AllUp (step (fixed_of given) (run given all) event).world
   up_next all event calm up = up_unless all event (λ server is. false≢true (sym calm ∙ ap (spoils given (run given all)) is)) up
 
   up_there : (world : World) (server : ℕ) → AllUp world → is_up world server ≡ is_some (server_at world server)
-  up_there world server up = of (server_at world server) refl
-    where
-      of : (found : Option State) → server_at world server ≡ found → up_in found ≡ is_some found
-      of None at = refl
-      of (Some st) at = up server st at
+  up_there world server up = search arith
 
   -- a server is up just where it was
   pub up_same : (all others : List Event) → AllUp (run given all) → AllUp (run given others) → (server : ℕ) → is_up (run given all) server ≡ is_up (run given others) server
-  up_same all others up were server =
-      up_there (run given all) server up
-      ∙ there_same (run given all).servers (run given others).servers ((so_many given all).0 ∙ sym (so_many given others).0) server
-      ∙ sym (up_there (run given others) server were)
+  up_same all others up were server = search (up_there, there_same, so_many, arith)

@@ -1,9 +1,8 @@
 -- What an open server has stored of a suite stands still, unless something is taken from the transaction to which it is open.
-use Rattle.law_run_recovers.proofs.Vocabulary.{◌≡◌, ⊎_elim, ℕ, Bool, true, false, cond, Option, Some, None, refl, sym, ap, subst, ◌∙◌, arith, ◌==◌, ◌&&◌, ◌||◌, not, option_map, slice_get, slice_set, list_any, nat_cmp, false≢true, eqb-true}
-use Rattle.law_run_recovers.proofs.Vocabulary.{eq-eqb, nat_tests, same_Some, get, LockMode, is_exclusive, Lock, Verdict, Request, Intention, IsConsistent, HasPreparedLock, conflicts, in_the_way, copy_of, left_by, finished, State}
-use Rattle.law_run_recovers.proofs.Vocabulary.{is_answered, Ways, by_request, room, Stepped, served, Has, has_from, has_any, find_none, Fixed, Event, World, server_at, step, same_or, puts_in, is_open_way, way_in}
+use Rattle.law_run_recovers.proofs.Vocabulary.{◌≡◌, ⊎_elim, ℕ, Bool, true, false, Some, None, refl, sym, ap, subst, ◌∙◌, arith, ◌==◌, ◌&&◌, slice_get, slice_set, list_any, nat_cmp, false≢true, eqb-true, eq-eqb, nat_tests, same_Some, get, LockMode}
+use Rattle.law_run_recovers.proofs.Vocabulary.{is_exclusive, Lock, Verdict, Request, Intention, IsConsistent, HasPreparedLock, conflicts, in_the_way, copy_of, finished, State, is_answered, Ways, by_request, room, Stepped, served, Has, has_from}
+use Rattle.law_run_recovers.proofs.Vocabulary.{has_any, find_none, Fixed, Event, World, server_at, step, same_or, puts_in, is_open_way, way_in}
 use Rattle.rep_core.proofs.Intentions.{copy_in-with_copies}
-use Rattle.rep_core.specs.Store.{in_effect}
 use Rattle.rep_core.specs.declared.request.Request.TheVariants as request
 use Rattle.law_run_recovers.proofs.Serves.{Serves, event_serves}
 
@@ -22,41 +21,19 @@ finish_leaves st z t v up leaves = elim (is_answered v) as (λ b. is_answered v 
 
 -- so it stays: nothing else changes it
 pub copy_ways : (st : State) (z : ℕ) → Ways st (λ asked new. Leaves st z asked → copy_of new.store z ≡ copy_of st.store z)
-copy_ways st z = record {
-  same = λ asked leaves. refl;
-  poll = λ t suite mode free leaves. refl;
-  upgrade = λ t suite has free leaves. refl;
-  prepare = λ t parts may room leaves. refl;
-  decide = λ t decision free leaves. refl;
-  resolve = λ t free leaves. refl;
-  finish = λ t v up leaves. finish_leaves st z t v up leaves;
-  break = λ t suite leaves. refl;
-  crash = λ leaves. refl;
-  return = λ leaves. refl;
-}
+copy_ways st z = grind (room, finish_leaves, arith)
 
 pub copy_served : {w : World} {stepped : Stepped} (it : Serves w stepped) (z : ℕ) → Leaves it.st z it.asked.value → copy_of (served it.st it.asked).store z ≡ copy_of it.st.store z
 copy_served it z leaves = by_request it.st _ (copy_ways it.st z) it.asked.value (room it.st it.asked it.room) leaves
 
 -- what is finished of a transaction that intends nothing there leaves it
 pub finished_none : (st : State) (t z : ℕ) → IsConsistent st → ((intention : Intention) → get nat_cmp st.store.intentions z ≡ Some intention → intention.t ≡ t → ⊥) → copy_of (finished t true st.store) z ≡ copy_of st.store z
-finished_none st t z is none = copy_in-with_copies st.store.c0 t st.store.intentions st.store.copies z is.sound.rising ∙ of (get nat_cmp st.store.intentions z) refl
-  where
-    of : (found : Option Intention) → get nat_cmp st.store.intentions z ≡ found → in_effect found (λ u. u == t) (copy_of st.store z) ≡ copy_of st.store z
-    of None there = refl
-    of (Some intention) there = by (intention.t == t) refl
-      where
-        by : (b : Bool) → (intention.t == t) ≡ b → cond b (left_by intention.take (copy_of st.store z)) (copy_of st.store z) ≡ copy_of st.store z
-        by false apart = refl
-        by true same = absurd (none intention there (eqb-true intention.t t same))
+finished_none st t z is none = search (copy_in-with_copies, eqb-true, arith)
 
 -- ---- an intention whose lock would be in the way
 
 pub in_conflict : (t z : ℕ) (mode : LockMode) (lock : Lock) → lock.suite ≡ z → (lock.t == t) ≡ false → is_exclusive lock.mode ≡ true → conflicts t z mode lock ≡ true
-in_conflict t z mode lock on other exclusive = three (lock.suite == z) (lock.t == t) (is_exclusive mode) (is_exclusive lock.mode) (eq-eqb lock.suite z on) other exclusive
-  where
-    three : (a b c d : Bool) → a ≡ true → b ≡ false → d ≡ true → (a && not b && (c || d)) ≡ true
-    three a b c d x y z = grind (arith, nat_tests)
+in_conflict t z mode lock on other exclusive = search arith
 
 named_so : (named t u : ℕ) → (named == t) ≡ false → u ≡ named → (u == t) ≡ false
 named_so named t u apart same = grind (arith, nat_tests)
@@ -73,21 +50,13 @@ module _ (st : State) (consistent : IsConsistent st) (t z : ℕ) (mode : LockMod
       has = has_from st.locks beside.lock beside.there
 
       of : (b : Bool) → (named == t) ≡ b → (b && list_any (λ (lock : Lock). lock.t == t) st.locks) ≡ true
-      of true here = has_any (λ (lock : Lock). lock.t == t) st.locks beside.lock has (eq-eqb beside.lock.t t (beside.of_it ∙ same ∙ eqb-true named t here))
-      of false apart = absurd (false≢true
-          (sym (find_none (conflicts t z mode) st.locks beside.lock free has)
-          ∙ in_conflict t z mode beside.lock beside.on_it (named_so named t beside.lock.t apart (beside.of_it ∙ same)) beside.exclusive))
+      of b h1 = search (has_any, has, eq-eqb, eqb-true, false≢true, find_none, in_conflict, named_so, arith)
 
 -- ---- in a world
 
 -- an open server has nothing in the way
 pub free_where : (t z : ℕ) (mode : LockMode) (st : State) → is_open_way (way_in t z mode (Some st)) ≡ true → in_the_way t z mode st.locks ≡ None
-free_where t z mode st = of st.up (in_the_way t z mode st.locks)
-  where
-    of : (b : Bool) (other : Option Lock) → is_open_way (cond b (Some (option_map (λ (lock : Lock). lock.t) other)) None) ≡ true → other ≡ None
-    of true None is = refl
-    of true (Some lock) is = absurd (false≢true is)
-    of false other is = absurd (false≢true is)
+free_where t z mode st = search arith
 
 module _ (fixed : Fixed) (w : World) (event : Event) (server t z : ℕ) (mode : LockMode) (st new : State) (at : server_at w server ≡ Some st) (now : server_at (step fixed w event).world server ≡ Some new)
     (consistent : IsConsistent st) (free : in_the_way t z mode st.locks ≡ None) where

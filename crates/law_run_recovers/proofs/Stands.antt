@@ -1,14 +1,13 @@
 -- How a transaction stands to which servers stand as a sight says: what it has asked for so far and how that was found, and how it ends.
-use Rattle.law_run_recovers.proofs.Vocabulary.{◌≡◌, ◌⊎◌, inl, inr, ℕ, ◌≤◌, Bool, true, false, cond, List, [], ◌∷◌, ◌++◌, append-nil, Option, Some, None, is_some, Result, Ok, Err, refl, sym, ap, subst, ◌∙◌, ◌==◌, not, nat_lt, find, map}
-use Rattle.law_run_recovers.proofs.Vocabulary.{list_any, nat_cmp, eqb-true, nat_cmp_total, same_Some, IsOrdered, IsOrdered-insert, Identity, Representative, Configuration, IsValid, max_servers, absent_prefix, Prefix, LockMode, Shared}
-use Rattle.law_run_recovers.proofs.Vocabulary.{Exclusive, serves, Has, Verdict, Answer, Refusal, Op, PlainTable, row_of, Need, Ended, needs, ending, transaction, newest, holds, Collector, all_told, Cache, hint, Ending, Undecided}
-use Rattle.law_run_recovers.proofs.Vocabulary.{Unavailable, ReadPoint, GatheredSuite, Suites, suite_of, with_suite, Fixed, Task, Granted, Phase, Gathering, Fetching, Preparing, Deciding, Finishing, TransactionRun, After, GoesOn, Ends}
-use Rattle.law_run_recovers.proofs.Vocabulary.{home_of, short_cause, tell_end, prepare, Each, EachBut, with_at, each_but, each_with, World, is_up, Demand, demand_by, is_met, newer_by, led_to_by, has_asked, not_asked, locks_asked, votes_set}
-use Rattle.law_run_recovers.proofs.Vocabulary.{MayStart, MayStartAll, ending_by, answer_on, Want, first_mode, Widening}
+use Rattle.law_run_recovers.proofs.Vocabulary.{◌≡◌, ◌⊎◌, inl, ℕ, ◌≤◌, Bool, true, false, cond, List, [], ◌∷◌, ◌++◌, append-nil, Option, Some, None, is_some, Result, Ok, Err, refl, sym, ap, ◌∙◌, ◌==◌, not, nat_lt, find, map, arith, list_any, nat_cmp}
+use Rattle.law_run_recovers.proofs.Vocabulary.{eqb-true, nat_cmp_total, IsOrdered, IsOrdered-insert, Identity, Representative, Configuration, IsValid, max_servers, absent_prefix, Prefix, LockMode, Shared, Exclusive, serves, Has, Verdict, Answer}
+use Rattle.law_run_recovers.proofs.Vocabulary.{Refusal, Op, PlainTable, row_of, Need, Ended, needs, ending, transaction, newest, holds, Collector, all_told, Cache, hint, Ending, Undecided, Unavailable, ReadPoint, GatheredSuite, Suites, suite_of}
+use Rattle.law_run_recovers.proofs.Vocabulary.{with_suite, Fixed, Task, Granted, Phase, Gathering, Fetching, Preparing, Deciding, Finishing, TransactionRun, After, GoesOn, Ends, home_of, short_cause, tell_end, prepare, Each, EachBut, with_at}
+use Rattle.law_run_recovers.proofs.Vocabulary.{each_but, each_with, World, is_up, Demand, demand_by, is_met, newer_by, led_to_by, has_asked, not_asked, locks_asked, votes_set, MayStart, MayStartAll, ending_by, answer_on, Want, first_mode, Widening}
 use Rattle.txn_core.specs.declared.ending.Cause.TheVariants.{Busy}
 use Rattle.txn_core.specs.Transactions.{Step}
 use Rattle.txn_core.specs.Doing as doing
-use Rattle.law_run_recovers.proofs.Asking.{onto, find_past, held_if, held_in}
+use Rattle.law_run_recovers.proofs.Asking.{onto, find_past, held_in}
 use Rattle.law_run_recovers.proofs.Led.{Rules, Reached}
 use Rattle.law_run_recovers.proofs.Polled.{Sight, finds_at, serves_all, AllRight, all_wider, AllBelow, Refusing}
 use Rattle.law_run_recovers.proofs.VotesSet.{IsSet}
@@ -65,11 +64,7 @@ IsKept suite = (suite.mode ≡ suite.collector.mode) × (is_some suite.first ≡
 
 -- one of the same mode and first Current is held as it was
 pub held_same : (new old : GatheredSuite) (mode : LockMode) → new.mode ≡ old.mode → new.first ≡ old.first → held_in mode (Some new) ≡ held_in mode (Some old)
-held_same new old mode same first = ap (held_if new mode) first ∙ of old.first
-  where
-    of : (first : Option ReadPoint) → held_if new mode first ≡ held_if old mode first
-    of (Some point) = ap (λ have. serves have mode) same
-    of None = refl
+held_same new old mode same first = search arith
 
 -- ---- how it ends
 
@@ -105,35 +100,18 @@ module _ (fixed : Fixed) (world : World) (sight : Sight) (table : PlainTable) (t
       → IsSetOrLed suites start want
       → (number had wanting : ℕ) (busy : Option (ℕ × ℕ)) → number ≡ want.suite → had ≡ (demand_of sight want).got → wanting ≡ (demand_of sight want).needed → Refusing fixed world sight want.suite want.mode want.votes.reps busy
       → EndsRight suites (Undecided (short_cause number had wanting busy))
-  ends_short suites start from want is last number had wanting busy a b c refuses = record {
-    start = start;
-    from = from;
-    ends = subst (EndsAs (Undecided (short_cause number had wanting busy))) (sym is) (of busy refl);
-    last = λ other there. subst (IsSetOrLed suites start) (same_Some want other (sym is ∙ there)) last;
-  }
-    where
-      of : (found : Option (ℕ × ℕ)) → busy ≡ found → EndsAs (Undecided (short_cause number had wanting found)) (Some want)
-      of None none = inl (
-        ap (λ n. Undecided (Unavailable n had wanting)) a ∙ ap (λ n. Undecided (Unavailable want.suite n wanting)) b ∙ ap (λ n. Undecided (Unavailable want.suite (demand_of sight want).got n)) c,
-        refuses.free none,
-      )
-      of (Some at) some = inr (at, refl, refuses.met at.0 at.1 some)
+  ends_short suites start from want is last number had wanting busy a b c refuses = search arith
 
   -- a lock that it asks for is not to be had, and all before were
   pub short_lock : (start : ℕ → Prefix) (so_far left : List (ℕ × LockMode)) (one : ℕ × LockMode) → locks_on table task ≡ onto so_far (one ∷ left)
       → ((other : ℕ × LockMode) → Has so_far other → unmet sight (of_lock fixed world sight start other) ≡ false) → unmet sight (of_lock fixed world sight start one) ≡ true
       → find (unmet sight) (wants_of fixed world sight table task.t task.caller task.ops start) ≡ Some (of_lock fixed world sight start one)
-  short_lock start so_far left one are met short =
-      ap (λ locks. find (unmet sight) (map (of_lock fixed world sight start) locks ++ map of_votes (sets_on table task))) are
-      ∙ find_past (of_lock fixed world sight start) (unmet sight) so_far (one ∷ left) (map of_votes (sets_on table task)) met
-      ∙ ap (λ b. cond b (Some (of_lock fixed world sight start one)) (find (unmet sight) (map (of_lock fixed world sight start) left ++ map of_votes (sets_on table task)))) short
+  short_lock start so_far left one are met short = search (find_past, arith)
 
   -- all locks are had
   past_locks : (start : ℕ → Prefix) (so_far : List (ℕ × LockMode)) → locks_on table task ≡ onto so_far [] → ((other : ℕ × LockMode) → Has so_far other → unmet sight (of_lock fixed world sight start other) ≡ false)
       → find (unmet sight) (wants_of fixed world sight table task.t task.caller task.ops start) ≡ find (unmet sight) (map of_votes (sets_on table task))
-  past_locks start so_far are met =
-      ap (λ locks. find (unmet sight) (map (of_lock fixed world sight start) locks ++ map of_votes (sets_on table task))) are
-      ∙ find_past (of_lock fixed world sight start) (unmet sight) so_far [] (map of_votes (sets_on table task)) met
+  past_locks start so_far are met = search (find_past, arith)
 
   past_sets : (done left : List (ℕ × Configuration)) → sets_on table task ≡ onto done left → ((other : ℕ × Configuration) → Has done other → unmet sight (of_votes other) ≡ false)
       → find (unmet sight) (map of_votes (sets_on table task)) ≡ find (unmet sight) (map of_votes left)
@@ -147,8 +125,7 @@ module _ (fixed : Fixed) (world : World) (sight : Sight) (table : PlainTable) (t
       → ((other : ℕ × LockMode) → Has so_far other → unmet sight (of_lock fixed world sight start other) ≡ false) → sets_on table task ≡ onto done (one ∷ left)
       → ((other : ℕ × Configuration) → Has done other → unmet sight (of_votes other) ≡ false) → unmet sight (of_votes one) ≡ true
       → find (unmet sight) (wants_of fixed world sight table task.t task.caller task.ops start) ≡ Some (of_votes one)
-  short_votes start so_far done left one are met sets sets_met short =
-      past_locks start so_far are met ∙ past_sets done (one ∷ left) sets sets_met ∙ ap (λ b. cond b (Some (of_votes one)) (find (unmet sight) (map of_votes left))) short
+  short_votes start so_far done left one are met sets sets_met short = search (past_locks, past_sets, arith)
 
   pub none_short : (start : ℕ → Prefix) (so_far : List (ℕ × LockMode)) (done : List (ℕ × Configuration)) → locks_on table task ≡ onto so_far []
       → ((other : ℕ × LockMode) → Has so_far other → unmet sight (of_lock fixed world sight start other) ≡ false) → sets_on table task ≡ onto done []
@@ -190,16 +167,7 @@ module _ (fixed : Fixed) (world : World) (sight : Sight) (table : PlainTable) (t
   SameStart suites number new = (old : GatheredSuite) → suite_of suites number ≡ Some old → new.collector.start ≡ old.collector.start
 
   pub had_with : (suites : Suites) (number : ℕ) (new : GatheredSuite) (one : ℕ × LockMode) → SameStart suites number new → IsHad suites one → IsHad (with_suite number new suites) one
-  had_with suites number new one same had = of (number == one.0) refl
-    where
-      of : (b : Bool) → (number == one.0) ≡ b → IsHad (with_suite number new suites) one
-      of true is = record {
-        suite = new;
-        there = with_at number new suites one.0 ∙ ap (λ b. cond b (Some new) (suite_of suites one.0)) is;
-        met = subst (λ prefix. is_met (demand_by (sight.opens one.0 one.1) one.0 one.1 (led_to_by fixed world (finds_at sight one.0) one.0 prefix).votes) ≡ true)
-            (sym (same had.suite (ap (suite_of suites) (eqb-true number one.0 is) ∙ had.there))) had.met;
-      }
-      of false is = record { suite = had.suite; there = with_at number new suites one.0 ∙ ap (λ b. cond b (Some new) (suite_of suites one.0)) is ∙ had.there; met = had.met }
+  had_with suites number new one same had = search (with_at number new suites one.0, finds_at, eqb-true, arith)
 
   -- what it asked for so far, the newest first: all of it is had, and nothing else
   pub record Asked (suites : Suites) (asked : List (ℕ × LockMode)) : Type 0 where
@@ -220,8 +188,7 @@ module _ (fixed : Fixed) (world : World) (sight : Sight) (table : PlainTable) (t
   }
     where
       of : (z : ℕ) (mode : LockMode) (b : Bool) → (number == z) ≡ b → held_in mode (cond b (Some new) (suite_of suites z)) ≡ held_in mode (suite_of suites z)
-      of z mode true is = held mode ∙ ap (λ z. held_in mode (suite_of suites z)) (eqb-true number z is)
-      of z mode false is = refl
+      of z mode b h3 = search (held_in, eqb-true, arith)
 
   -- the site's cache hints of suites that are not gathered what it hinted as it began, if anything
   abbrev pub Hints : Suites → Cache → Type 0
@@ -291,11 +258,7 @@ module _ (fixed : Fixed) (world : World) (sight : Sight) (table : PlainTable) (t
     found_start z suite found = ap (λ (c : Collector). c.start) found.reached.is
 
     pub found_right : (z : ℕ) (suite : GatheredSuite) → IsFound z suite → IsRight z suite
-    found_right z suite found = record {
-      may = subst (MayStart fixed cache task.site z) (sym (found_start z suite found)) found.may;
-      right = subst (AllRight fixed world sight z Exclusive) (sym (ap all_told found.reached.is))
-          (all_wider fixed world sight z found.reached.mode Exclusive found.reached.told (serves_all found.reached.mode) found.reached.going.right);
-    }
+    found_right z suite found = search (found_start, all_wider, serves_all, arith)
 
     -- and that had a Current: some server holds a lock on it
     pub record HasLock (suite : GatheredSuite) : Type 0 where
@@ -346,9 +309,7 @@ module _ (fixed : Fixed) (world : World) (sight : Sight) (table : PlainTable) (t
     StepStands step = AfterStands step.cache step.after
 
     pub told_stands : (now : Cache) (suites : Suites) (v : Verdict) (ended : Ending) (servers : List ℕ) → EndsRight suites ended → StepStands (tell_end task now suites v ended servers)
-    told_stands now suites v ended [] right = (suites, right)
-    told_stands now suites v ended (server ∷ servers) right = (refl, right)
+    told_stands now suites v ended servers h5 = search arith
 
     pub prepare_stands : (now : Cache) (suites : Suites) (outcome : doing.Proposal) (servers : List ℕ) → HasAll suites (answer_in outcome) → StepStands (prepare task now suites outcome servers)
-    prepare_stands now suites outcome [] all = (refl, all)
-    prepare_stands now suites outcome (server ∷ servers) all = (refl, all)
+    prepare_stands now suites outcome servers h4 = search arith

@@ -1,9 +1,8 @@
 -- What the course of a transaction stands on, be it among locks that stay, or told what it would have been told as it began.
-use Rattle.law_run_recovers.proofs.Vocabulary.{◌≡◌, ℕ, Bool, true, false, cond, List, [], ◌∷◌, ◌++◌, append_assoc, Option, Some, None, refl, sym, ap, subst, ◌∙◌, arith, ◌==◌, ◌&&◌, ◌||◌, not, slice_get, false≢true, and_parts, eqb-true}
-use Rattle.law_run_recovers.proofs.Vocabulary.{nat_tests, none-some, same_Some, Identity, Opening, Op, Lock, Request, Stamped, State, after_up, after_down, is_full, served, answer_of, Has, any_has, Transaction, Fixed, fixed_of, next_of}
-use Rattle.law_run_recovers.proofs.Vocabulary.{Served, Event, Begin, Step, Crash, Actor, World, server_at, actor_at, operates, operated, step, run, CanBe, begins_job, puts_in, up_in, is_up, locks_in, locks_at, AreNear, asks_for, running_in}
-use Rattle.law_run_recovers.proofs.Vocabulary.{is_running, is_telling, begun_world, world_after, up_and, of_up, robs, hinders_itself, GoesAmongLocks, AsAtItsBegin, ToldAsAtItsBegin, bereaves, drops, everywhere, and_right}
-use Rattle.rep_core.specs.Service.{after}
+use Rattle.law_run_recovers.proofs.Vocabulary.{◌≡◌, ℕ, Bool, true, false, List, [], ◌∷◌, ◌++◌, append_assoc, Option, Some, None, refl, sym, ap, subst, ◌∙◌, arith, ◌==◌, ◌&&◌, ◌||◌, not, slice_get, false≢true, and_parts, eqb-true, nat_tests}
+use Rattle.law_run_recovers.proofs.Vocabulary.{none-some, same_Some, Identity, Opening, Op, Lock, Request, Stamped, State, served, Has, any_has, Transaction, Fixed, fixed_of, next_of, Served, Event, Begin, Step, Crash, Actor, World, server_at}
+use Rattle.law_run_recovers.proofs.Vocabulary.{actor_at, step, run, CanBe, begins_job, puts_in, is_up, locks_in, locks_at, AreNear, asks_for, running_in, is_running, begun_world, world_after, up_and, of_up, robs, hinders_itself, GoesAmongLocks}
+use Rattle.law_run_recovers.proofs.Vocabulary.{AsAtItsBegin, ToldAsAtItsBegin, bereaves, drops, everywhere, and_right}
 use Rattle.rep_core.specs.declared.request.Request.TheVariants as request
 use Rattle.law_run_recovers.proofs.Keeps.{IsAtWork, OfAsks, after_append, as_at_its_begin, operates_it}
 use Rattle.law_run_recovers.proofs.Serves.{On}
@@ -16,38 +15,11 @@ module _ (fixed : Fixed) (w : World) (server : ℕ) where
 
   -- a server that crashed is down
   crash_downs : (what : Served) → (step fixed w (Crash server)).done.served ≡ Some what → (what.server ≡ server) × (is_up (step fixed w (Crash server)).world server ≡ false)
-  crash_downs what = of (server_at w server) refl
-    where
-      downs : (st : State) → (after st request.Crash).up ≡ false
-      downs st = by st.up refl
-        where
-          by : (b : Bool) → st.up ≡ b → (cond b (after_up st request.Crash) (after_down st request.Crash)).up ≡ false
-          by true up = refl
-          by false up = up
-
-      of : (found : Option State) → server_at w server ≡ found → (operates w server request.Crash found).done.served ≡ Some what → (what.server ≡ server) × (is_up (operates w server request.Crash found).world server ≡ false)
-      of None at is = absurd (none-some what is)
-      of (Some st) at is = by (is_full st asked) is
-        where
-          by : (b : Bool) → (operated w st (cond b None (Some (record { server = server; request = asked; reply = answer_of st asked })))).done.served ≡ Some what
-              → (what.server ≡ server) × (is_up (operated w st (cond b None (Some (record { server = server; request = asked; reply = answer_of st asked })))).world server ≡ false)
-          by true is = absurd (none-some what is)
-          by false is = (
-            ap (λ (what : Served). what.server) (sym (same_Some _ what is)),
-            ap up_in (puts_in w.servers server st (served st asked) at).here ∙ downs st,
-          )
+  crash_downs what = search (none-some, same_Some, puts_in, arith)
 
   -- agents are as they were
   crash_agents : (step fixed w (Crash server)).world.agents ≡ w.agents
-  crash_agents = of (server_at w server)
-    where
-      of : (found : Option State) → (operates w server request.Crash found).world.agents ≡ w.agents
-      of None = refl
-      of (Some st) = by (is_full st asked)
-        where
-          by : (b : Bool) → (operated w st (cond b None (Some (record { server = server; request = asked; reply = answer_of st asked })))).world.agents ≡ w.agents
-          by true = refl
-          by false = refl
+  crash_agents = search arith
 
 -- ---- either premise
 
@@ -111,22 +83,14 @@ module _ (given : Opening) (events later : List Event) (agent t : ℕ) (caller :
 
       served_so : (found : Option Served) → (step (fixed_of given) (world_after given events agent caller site ops so_far) (Crash server)).done.served ≡ found
           → of_up (drops t) (world_after given events agent caller site ops so_far) found ≡ true → ⊥
-      served_so None done some = false≢true some
-      served_so (Some what) done some = at_server what done (server_at (then so_far) what.server) refl some
+      served_so found h1 h2 = search (false≢true, at_server, arith)
 
       kept_so : bereaves given agent t (world_after given events agent caller site ops so_far) (Crash server) ≡ false
-      kept_so = by (of_up (drops t) (then so_far) (step (fixed_of given) (then so_far) (Crash server)).done.served) refl
-        where
-          by : (b : Bool) → of_up (drops t) (world_after given events agent caller site ops so_far) (step (fixed_of given) (world_after given events agent caller site ops so_far) (Crash server)).done.served ≡ b
-              → (not (is_telling (world_after given events agent caller site ops so_far) agent)
-              && of_up (drops t) (world_after given events agent caller site ops so_far) (step (fixed_of given) (world_after given events agent caller site ops so_far) (Crash server)).done.served) ≡ false
-          by true some = absurd (served_so (step (fixed_of given) (then so_far) (Crash server)).done.served refl some)
-          by false none = and_right (not (is_telling (then so_far) agent)) _ none
+      kept_so = search (served_so, and_right, arith)
 
     pub among_kept : (so_far rest : List Event) (event : Event) → later ≡ so_far ++ event ∷ rest → IsAtWork (world_after given events agent caller site ops so_far) agent t → Answered so_far
         → bereaves given agent t (world_after given events agent caller site ops so_far) event ≡ false
-    among_kept so_far rest (Crash server) split work answered = kept_so so_far rest server split work answered
-    among_kept so_far rest other split work answered = refl
+    among_kept so_far rest event h3 h4 h5 = search (kept_so, arith)
 
     abbrev pub steady : GoesSteadily given events later agent t caller site ops actor
     steady = record {
@@ -143,11 +107,7 @@ module _ (given : Opening) (events later : List Event) (agent t : ℕ) (caller :
     -- its steps are served to its end
     pub never_hindered : (so_far rest : List Event) (event : Event) → later ≡ so_far ++ event ∷ rest → is_running (world_after given events agent caller site ops so_far) agent t ≡ true
         → hinders_itself given agent (world_after given events agent caller site ops so_far) event ≡ false
-    never_hindered so_far rest event split running =
-        of (hinders_itself given agent (then so_far) event) (robs given agent t (then so_far) event) (goes.free_hand so_far rest event split running)
-      where
-        of : (a b : Bool) → (a || b) ≡ false → a ≡ false
-        of a b is = grind (arith, nat_tests)
+    never_hindered so_far rest event split running = search arith
 
   -- ---- told as at its begin
 

@@ -1,6 +1,6 @@
 -- A step of an agent that was served: what it asked, of which server, and what it made of the reply.
-use Rattle.law_run_recovers.proofs.Vocabulary.{◌≡◌, ℕ, true, false, cond, Option, Some, None, is_some, refl, sym, subst, slice_set, false≢true, Request, Stamped, State, reply_of, is_full, served, answer_of, Replied, Fixed, next_of, take}
-use Rattle.law_run_recovers.proofs.Vocabulary.{Step, Served, Actor, World, Stepped, server_at, actor_at, serve, moved, outcome_of, answered, asks_at, asks, steps_once, step, puts_in}
+use Rattle.law_run_recovers.proofs.Vocabulary.{◌≡◌, ℕ, true, false, cond, Option, Some, None, is_some, refl, slice_set, false≢true, Request, Stamped, State, reply_of, is_full, served, answer_of, Replied, Fixed, next_of, take, arith, Step, Served}
+use Rattle.law_run_recovers.proofs.Vocabulary.{Actor, World, Stepped, server_at, actor_at, serve, moved, outcome_of, answered, asks_at, asks, step, puts_in}
 
 module _ (fixed : Fixed) (w : World) (agent : ℕ) (here : Actor) (there : actor_at w agent ≡ Some here) where
   abbrev pub with_stamp : Request → Stamped Request
@@ -35,14 +35,10 @@ module _ (fixed : Fixed) (w : World) (agent : ℕ) (here : Actor) (there : actor
 
   at_server : (asked : ℕ × Request) → next_of fixed here.agent ≡ Some asked → (found : Option State) → server_at w asked.0 ≡ found
       → is_some (asks_at fixed w agent here asked found).done.served ≡ true → OwnTook (asks_at fixed w agent here asked found)
-  at_server asked next None at is = absurd (false≢true is)
-  at_server asked next (Some st) at is = served_took asked st next at is
+  at_server asked h1 found h3 h4 = grind (false≢true, served_took, arith)
 
   at_next : (asked : Option (ℕ × Request)) → next_of fixed here.agent ≡ asked → is_some (asks fixed w agent here asked).done.served ≡ true → OwnTook (asks fixed w agent here asked)
-  at_next None next is = absurd (false≢true is)
-  at_next (Some asked) next is = at_server asked next (server_at w asked.0) refl is
+  at_next asked h1 h2 = search (false≢true, at_server, arith)
 
   pub own_took : is_some (step fixed w (Step agent)).done.served ≡ true → OwnTook (step fixed w (Step agent))
-  own_took =
-      subst (λ found. is_some (steps_once fixed w agent found).done.served ≡ true → OwnTook (steps_once fixed w agent found)) (sym there)
-      (at_next (next_of fixed here.agent) refl)
+  own_took = search (at_next, arith)

@@ -1,12 +1,11 @@
 -- Once all servers were swept, what is stored is in effect, and was before.
-use Rattle.law_run_recovers.proofs.Vocabulary.{◌≡◌, ℕ, true, List, [], ◌++◌, length, Option, Some, None, refl, sym, ap, subst, ◌∙◌, ◌==◌, unwrap_or, nat_cmp, get, Opening, Intention, IsConsistent, copy_of, State, Has, has_from, all_at}
-use Rattle.law_run_recovers.proofs.Vocabulary.{World, server_at, run, servers_of, Event, answered_in, copy_at, at_has, all_free, sweeps, AllIsStoredAt, Always}
+use Rattle.law_run_recovers.proofs.Vocabulary.{◌≡◌, ℕ, true, List, [], length, Option, Some, None, refl, subst, ◌==◌, unwrap_or, nat_cmp, get, Opening, Intention, IsConsistent, copy_of, State, Has, has_from, all_at, arith, World, server_at, run}
+use Rattle.law_run_recovers.proofs.Vocabulary.{servers_of, Event, copy_at, at_has, all_free, AllIsStoredAt, Always}
 use Rattle.law_run_machine.proofs.Consistent.{servers_are_consistent}
-use Rattle.rep_core.specs.Store as store
 use Rattle.rep_core.specs.State as state
 use Rattle.law_run_recovers.proofs.Found.{no_locks}
 use Rattle.law_run_recovers.proofs.Free.{no_lock_is_left}
-use Rattle.law_run_recovers.proofs.Quiet.{Calm, effects_stay, decisions_stay}
+use Rattle.law_run_recovers.proofs.Quiet.{effects_stay, decisions_stay}
 use Rattle.law_run_recovers.proofs.Calm.{calm_round}
 
 -- no server has a lock, those that are not there too
@@ -26,16 +25,7 @@ no_intention st consistent free z (Some intention) is =
 
 -- and what is stored is in effect
 pub stored_is : (given : Opening) (events : List Event) → all_free (run given events) ≡ true → (z i : ℕ) → copy_of (servers_of given (run given events) i).store z ≡ copy_at given events z i
-stored_is given events free z i =
-    let st = servers_of given (run given events) i in
-    let none = no_intention st (servers_are_consistent given events i) (free_at given (run given events) i free) z (get nat_cmp st.store.intentions z) refl in
-    ap (λ found. store.in_effect found (answered_in given events) (copy_of st.store z)) (sym none)
+stored_is given events free z i = search (no_intention, servers_are_consistent, free_at, arith)
 
 pub all_is_stored : Always AllIsStoredAt
-all_is_stored given events agent sweep_run can up goes all =
-    let calm : Calm given (run given events) (sweeps agent sweep_run) = calm_round given agent (run given events) sweep_run goes in
-    let free = no_lock_is_left given events agent sweep_run can up goes all in
-    record {
-      stored = λ z i. stored_is given (events ++ sweeps agent sweep_run) free z i ∙ effects_stay given events (sweeps agent sweep_run) can calm z i;
-      decided = decisions_stay given events (sweeps agent sweep_run) can calm;
-    }
+all_is_stored given events agent sweep_run can up goes all = search (calm_round, no_lock_is_left, stored_is, effects_stay, decisions_stay, arith)

@@ -1,8 +1,8 @@
 -- A sweep alone: how the locks at its server and what it has left go together.
 use Rattle.law_run_recovers.proofs.Vocabulary.{◌≡◌, ◌≢◌, ◌⊎◌, inl, inr, ⊎_elim, ℕ, ◌+◌, Bool, true, false, cond, List, [], ◌∷◌, Option, Some, None, refl, sym, ap, subst, ◌∙◌, arith, ◌==◌, ◌&&◌, not, filter, slice_get, slice_set, false≢true}
-use Rattle.law_run_recovers.proofs.Vocabulary.{and_parts, cases_Bool, eqb-true, eq-eqb, and_from, Lock, Request, Verdict, has_prepared, is_own, rise, State, record_of, reply_of, reply_up, reply_down, after_up, after_down, after_record}
-use Rattle.law_run_recovers.proofs.Vocabulary.{served, Has, has_filter, filter_has, any_has, has_any, Ending, Swept, home_of, Fixed, Sweeping, Listing, Resolving, Telling, Breaking, SweepRun, After, GoesOn, Ends, rising, others, sweep_on}
-use Rattle.law_run_recovers.proofs.Vocabulary.{after_answer, asked_now, World, server_at, same_or, puts_in, up_in, is_up, locks_in, locks_at, is_in_doubt, one_if, holders}
+use Rattle.law_run_recovers.proofs.Vocabulary.{and_parts, cases_Bool, eqb-true, eq-eqb, and_from, Lock, Request, Verdict, has_prepared, is_own, rise, State, record_of, reply_of, reply_up, reply_down, after_up, after_down, after_record, served, Has}
+use Rattle.law_run_recovers.proofs.Vocabulary.{has_filter, filter_has, any_has, has_any, Ending, Swept, home_of, Fixed, Sweeping, Listing, Resolving, Telling, Breaking, SweepRun, After, GoesOn, Ends, rising, others, sweep_on, after_answer, asked_now}
+use Rattle.law_run_recovers.proofs.Vocabulary.{World, server_at, same_or, puts_in, up_in, is_up, locks_in, locks_at, is_in_doubt, one_if, holders}
 use Rattle.rep_core.specs.Service.{after}
 use Rattle.txn_core.specs.Sweeps.{lost}
 use Rattle.rep_core.specs.declared.request.Request.TheVariants as request
@@ -12,10 +12,7 @@ use Rattle.law_run_recovers.proofs.Doubts.{filter_twice, filter_alike, filter_al
 -- ---- tests
 
 turned : (a b : Bool) → (a && b) ≡ (b && a)
-turned true true = refl
-turned true false = refl
-turned false true = refl
-turned false false = refl
+turned a b = search arith
 
 -- ---- a server served one request
 
@@ -30,11 +27,7 @@ module _ (w new : World) (target : ℕ) (st : State) (asked : Request) (stamp : 
   served_apart x apart = ap (λ servers. slice_get servers x) servers ∙ (puts_in w.servers target st new_st at).apart x apart
 
   pub same_ups : (after st asked).up ≡ st.up → (x : ℕ) → is_up new x ≡ is_up w x
-  same_ups same x =
-      ⊎_elim
-      (λ here. ap (is_up new) here ∙ ap up_in served_here ∙ same ∙ sym (ap up_in at) ∙ sym (ap (is_up w) here))
-      (λ apart. ap up_in (served_apart x apart))
-      (same_or x target)
+  same_ups same x = search (served_here, served_apart, same_or, arith)
 
   pub locks_here : locks_at new target ≡ (after st asked).locks
   locks_here = ap locks_in served_here
@@ -43,19 +36,13 @@ module _ (w new : World) (target : ℕ) (st : State) (asked : Request) (stamp : 
   locks_apart x apart = ap locks_in (served_apart x apart)
 
   pub same_locks : (after st asked).locks ≡ st.locks → (x : ℕ) → locks_at new x ≡ locks_at w x
-  same_locks same x =
-      ⊎_elim
-      (λ here. ap (locks_at new) here ∙ locks_here ∙ same ∙ sym (ap locks_in at) ∙ sym (ap (locks_at w) here))
-      (λ apart. locks_apart x apart)
-      (same_or x target)
+  same_locks same x = search (locks_here, locks_apart, same_or, arith)
 
 record_up : (old : Option Verdict) (t : ℕ) (v : Verdict) (st : State) → (after_record old t v None st).up ≡ st.up
-record_up None t v st = refl
-record_up (Some old) t v st = refl
+record_up old t v st = search arith
 
 record_locks : (old : Option Verdict) (t : ℕ) (v : Verdict) (st : State) → (after_record old t v None st).locks ≡ st.locks
-record_locks None t v st = refl
-record_locks (Some old) t v st = refl
+record_locks old t v st = search arith
 
 -- ---- what is left
 
@@ -109,10 +96,7 @@ module _ (fixed : Fixed) (first : World) (s : ℕ) (up : is_up first s ≡ true)
   -- ---- it goes on with what is left
 
   same_test : (p : Lock → Bool) (count : ℕ) → Left p [] count → (lock : Lock) → Has then_there lock → p lock ≡ doubt lock
-  same_test p count left lock has = ⊎_elim
-      (λ is. left.kept lock has is ∙ sym is)
-      (λ not_so. ⊎_elim (λ is. ⊎_elim (λ so. absurd (false≢true (sym not_so ∙ so))) (λ none. absurd none) (left.here lock has is)) (λ is. is ∙ sym not_so) (cases_Bool (p lock)))
-      (cases_Bool (doubt lock))
+  same_test p count left lock has = search arith
 
   pub goes_on : (w : World) (sweep_run : SweepRun) → sweep_run.server ≡ s → Others w → (p : Lock → Bool) → locks_at w s ≡ filter p then_there → (rest : List Lock) → Left p rest sweep_run.left → Then w (sweep_on sweep_run rest)
   goes_on w sweep_run server others_are p locks [] left =
@@ -127,14 +111,7 @@ module _ (fixed : Fixed) (first : World) (s : ℕ) (up : is_up first s ≡ true)
     where
       to : (n m : ℕ) → n + 0 ≡ m → n ≡ m
       to n m is = omega (arith, is)
-  goes_on w sweep_run server others_are p locks (lock ∷ more) left =
-      elim (has_prepared lock.t (lock ∷ more)) as (λ b. has_prepared lock.t (lock ∷ more) ≡ b → Sweeps w (record sweep_run { now = cond b (Resolving lock.t (others lock.t more)) (Breaking lock more) })) [
-        | true ↦ λ is. record { server = server; others_are = others_are; p = p; locks = locks; rest = lock ∷ more; left = left; now = (sym (own_first lock more), is) }
-        | false ↦ λ is. record { server = server; others_are = others_are; p = p; locks = locks; rest = lock ∷ more; left = left; now = (refl, is) }
-      ] refl
-    where
-      own_first : (lock : Lock) (more : List Lock) → others lock.t (lock ∷ more) ≡ others lock.t more
-      own_first lock more = ap (λ b. cond (not b) (lock ∷ others lock.t more) (others lock.t more)) (eq-eqb lock.t lock.t refl)
+  goes_on w sweep_run server others_are p locks (lock ∷ more) left = search (eq-eqb, arith)
 
   -- ---- one transaction less
 
@@ -150,9 +127,7 @@ module _ (fixed : Fixed) (first : World) (s : ℕ) (up : is_up first s ≡ true)
 
   -- others of what is left stay apart
   all_others : (p : Lock → Bool) (rest : List Lock) (count t : ℕ) → Left p rest count → (lock other : Lock) → Has then_there lock → lock.prepared ≡ true → Has (others t rest) other → lock.t ≡ other.t → Has (others t rest) lock
-  all_others p rest count t left lock other has prepared in' same =
-      let was = has_filter (λ (lock : Lock). not (lock.t == t)) rest other in' in
-      filter_has (λ (lock : Lock). not (lock.t == t)) rest lock (left.all lock other has prepared was.0 same) (ap (λ u. not (u == t)) same ∙ was.1)
+  all_others p rest count t left lock other has prepared in' same = search (has_filter, filter_has, arith)
 
   -- its home is down: it stays in doubt
   pub left_in_doubt : (p : Lock → Bool) (rest : List Lock) (count t : ℕ) → Left p rest count → has_prepared t rest ≡ true → is_up first (home_of fixed.service t) ≡ false → Left p (others t rest) (count + 1)
@@ -163,8 +138,7 @@ module _ (fixed : Fixed) (first : World) (s : ℕ) (up : is_up first s ≡ true)
       let doubtful : (lock : Lock) → lock.t ≡ t → doubt lock ≡ true = λ lock is. doubt_of lock t is ∙ and_from (has_prepared t then_there) (not (is_up first (home_of fixed.service t))) before (ap not down) in
       let one = has_any (λ (lock : Lock). lock.t == t) (filter doubt rest) some.0 (filter_has doubt rest some.0 some.1 (doubtful some.0 (eqb-true some.0.t t parts.0))) parts.0 in
       record {
-        here = λ lock has is. ⊎_elim inl (λ in'. ⊎_elim (λ own. inl (doubtful lock (eqb-true lock.t t own)))
-            (λ apart. inr (filter_has (λ (lock : Lock). not (lock.t == t)) rest lock in' (ap not apart))) (cases_Bool (lock.t == t))) (left.here lock has is);
+        here = search (eqb-true, filter_has, cases_Bool, arith);
         kept = left.kept;
         there = λ lock in'. left.there lock (has_filter (λ (lock : Lock). not (lock.t == t)) rest lock in').0;
         all = all_others p rest count t left;
@@ -197,42 +171,7 @@ module _ (fixed : Fixed) (first : World) (s : ℕ) (up : is_up first s ≡ true)
   -- no lock of it is prepared, and one is broken
   pub left_broken : (p : Lock → Bool) (lock : Lock) (more : List Lock) (count : ℕ) → Left p (lock ∷ more) count → has_prepared lock.t (lock ∷ more) ≡ false
       → Left (λ other. p other && not (is_own lock.t lock.suite other && not other.prepared)) more count
-  left_broken p lock more count left none =
-      record {
-        here = λ other has is.
-            let parts = and_parts (p other) (not (is_own lock.t lock.suite other && not other.prepared)) is in
-            ⊎_elim inl (λ in'. ⊎_elim (λ same. absurd (false≢true (sym (ap not (gone other same)) ∙ parts.1))) inr in') (left.here other has parts.0);
-        kept = λ other has is. and_from (p other) (not (is_own lock.t lock.suite other && not other.prepared)) (left.kept other has is)
-            (⊎_elim (λ own. absurd (false≢true (sym (certain other (of_it other own)) ∙ is))) (λ apart. ap not apart) (cases_Bool (is_own lock.t lock.suite other && not other.prepared)));
-        there = λ other in'. left.there other (inr in');
-        all = λ other third has prepared in' same. ⊎_elim (λ is. absurd (false≢true (sym unprepared ∙ ap (λ (lock : Lock). lock.prepared) is ∙ prepared))) (λ later. later) (left.all other third has prepared (inr in') same);
-        counted = ap (λ b. count + holders (cond b (lock ∷ filter doubt more) (filter doubt more))) (sym (certain lock refl)) ∙ left.counted;
-      }
-    where
-      unprepared : lock.prepared ≡ false
-      unprepared = ⊎_elim
-          (λ is. absurd (false≢true (sym none ∙ has_any (λ (other : Lock). (other.t == lock.t) && other.prepared) (lock ∷ more) lock (inl refl)
-          (and_from (lock.t == lock.t) lock.prepared (eq-eqb lock.t lock.t refl) is)))) (λ is. is) (cases_Bool lock.prepared)
-
-      never : has_prepared lock.t then_there ≡ false
-      never = ⊎_elim
-          (λ is.
-          let some = any_has (λ (other : Lock). (other.t == lock.t) && other.prepared) then_there is in
-          let parts = and_parts (some.0.t == lock.t) some.0.prepared some.2 in
-          absurd (false≢true (sym none ∙ has_any (λ (other : Lock). (other.t == lock.t) && other.prepared) (lock ∷ more) some.0 (left.all some.0 lock some.1 parts.1 (inl refl) (eqb-true some.0.t lock.t parts.0)) some.2)))
-          (λ is. is) (cases_Bool (has_prepared lock.t then_there))
-
-      certain : (other : Lock) → other.t ≡ lock.t → doubt other ≡ false
-      certain other is = doubt_of other lock.t is ∙ ap (λ b. b && not (is_up first (home_of fixed.service lock.t))) never
-
-      of_it : (other : Lock) → (is_own lock.t lock.suite other && not other.prepared) ≡ true → other.t ≡ lock.t
-      of_it other is =
-          let parts = and_parts (is_own lock.t lock.suite other) (not other.prepared) is in
-          eqb-true other.t lock.t (and_parts (other.t == lock.t) (other.suite == lock.suite) parts.0).0
-
-      gone : (other : Lock) → lock ≡ other → (is_own lock.t lock.suite other && not other.prepared) ≡ true
-      gone other same = subst (λ (other : Lock). (is_own lock.t lock.suite other && not other.prepared) ≡ true) same
-          (and_from (is_own lock.t lock.suite lock) (not lock.prepared) (and_from (lock.t == lock.t) (lock.suite == lock.suite) (eq-eqb lock.t lock.t refl) (eq-eqb lock.suite lock.suite refl)) (ap not unprepared))
+  left_broken p lock more count left none = search (and_parts, false≢true, and_from, cases_Bool, has_any, eq-eqb, any_has, eqb-true, doubt_of, arith)
 
   -- ---- one step
 
@@ -330,10 +269,7 @@ module _ (fixed : Fixed) (first : World) (s : ℕ) (up : is_up first s ≡ true)
 
     by_now : (now : Sweeping) → NowIs now sweeps.p sweeps.rest → server_at w (asked_now fixed.service sweep_run now).0 ≡ Some st → Serves (asked_now fixed.service sweep_run now).0 (asked_now fixed.service sweep_run now).1
         → Then new (after_answer fixed.service sweep_run now (reply_of st (asked_now fixed.service sweep_run now).1))
-    by_now Listing now at servers = listing now (ap (server_at w) (sym sweeps.server) ∙ at) (subst (λ target. Serves target request.Locks) sweeps.server servers)
-    by_now (Resolving t left) now at servers = resolving t left now at servers
-    by_now (Telling t v left) now at servers = telling t v left now (ap (server_at w) (sym sweeps.server) ∙ at) (subst (λ target. Serves target (request.Finish t v)) sweeps.server servers)
-    by_now (Breaking lock left) now at servers = breaking lock left now (ap (server_at w) (sym sweeps.server) ∙ at) (subst (λ target. Serves target (request.Break lock.t lock.suite)) sweeps.server servers)
+    by_now now h1 h2 h3 = search (listing, resolving, telling, breaking, arith)
 
     pub step_then : server_at w (asked_now fixed.service sweep_run sweep_run.now).0 ≡ Some st → Serves (asked_now fixed.service sweep_run sweep_run.now).0 (asked_now fixed.service sweep_run sweep_run.now).1
         → Then new (after_answer fixed.service sweep_run sweep_run.now (reply_of st (asked_now fixed.service sweep_run sweep_run.now).1))

@@ -1,13 +1,13 @@
 -- A sweep alone, from its begin on: as long as it goes on, and where it ended.
-use Rattle.law_run_recovers.proofs.Vocabulary.{◌≡◌, ◌⊎◌, inl, inr, ⊎_elim, ℕ, ◌+◌, true, false, cond, List, [], ◌∷◌, Option, Some, None, is_some, refl, sym, ap, subst, ◌∙◌, arith, ◌*◌, ◌&&◌, not, nat_lt, slice_get, slice_set, cons_option}
-use Rattle.law_run_recovers.proofs.Vocabulary.{false≢true, and_parts, not-true, none-some, same_Some, Opening, rise, State, Has, has_from, Ending, Sweep, Fixed, Listing, SweepRun, RunningSweep, After, GoesOn, Ends, Agent, fixed_of, is_idle}
-use Rattle.law_run_recovers.proofs.Vocabulary.{has_sense, max_jobs, next_in, left, end_of, begin, started, Event, Begin, Step, EndedJob, Actor, World, Stepped, opening, server_at, actor_at, outcome_of, becomes, asks, steps_once, step}
-use Rattle.law_run_recovers.proofs.Vocabulary.{after, dones, outcomes, run, begins_now, puts_in, begins_job, with_job, all_consistent, up_in, is_up, locks_in, locks_at, hinders, unhindered_from, Always, SweepsLeaveDoubtsAt}
+use Rattle.law_run_recovers.proofs.Vocabulary.{◌≡◌, ◌⊎◌, inl, inr, ⊎_elim, ℕ, ◌+◌, true, false, cond, List, [], ◌∷◌, Option, Some, None, is_some, refl, sym, ap, subst, ◌∙◌, arith, ◌*◌, ◌&&◌, not, nat_lt, slice_set, cons_option, false≢true, and_parts}
+use Rattle.law_run_recovers.proofs.Vocabulary.{not-true, none-some, same_Some, Opening, rise, Has, has_from, Ending, Sweep, Fixed, Listing, SweepRun, RunningSweep, After, Agent, fixed_of, is_idle, has_sense, max_jobs, left, end_of, begin, started}
+use Rattle.law_run_recovers.proofs.Vocabulary.{Event, Begin, Step, EndedJob, Actor, World, Stepped, opening, actor_at, outcome_of, becomes, step, after, dones, outcomes, run, begins_now, puts_in, begins_job, with_job, all_consistent, is_up, locks_at}
+use Rattle.law_run_recovers.proofs.Vocabulary.{hinders, unhindered_from, Always, SweepsLeaveDoubtsAt}
 use Rattle.run_core.proofs.Appending.{after-append}
 use Rattle.law_run_recovers.proofs.Aside.{Aside, event_aside}
 use Rattle.law_run_recovers.proofs.Doubts.{filter_all}
 use Rattle.law_run_recovers.proofs.OwnStep.{Went, then_does, own_step}
-use Rattle.law_run_recovers.proofs.Sweeps.{Others, Sweeps, Finished, Then, others_served, step_then}
+use Rattle.law_run_recovers.proofs.Sweeps.{Sweeps, Finished, Then, step_then}
 
 module _ (given : Opening) (agent : ℕ) (first : World) (s : ℕ) (up : is_up first s ≡ true) (rises : rise (locks_at first s) ≡ true) where
   abbrev fixed : Fixed
@@ -40,28 +40,11 @@ module _ (given : Opening) (agent : ℕ) (first : World) (s : ℕ) (up : is_up f
 
   -- ---- where nothing happens
 
-  others_stay : (w new : World) → new.servers ≡ w.servers → Others fixed first s up rises w → Others fixed first s up rises new
-  others_stay w new same others = others_served fixed first s up rises w new others (λ x. ap (λ servers. up_in (slice_get servers x)) same) (λ x apart. ap (λ servers. locks_in (slice_get servers x)) same)
-
   sweeps_stay : (w new : World) (sweep_run : SweepRun) → new.servers ≡ w.servers → IsSweeping w sweep_run → IsSweeping new sweep_run
-  sweeps_stay w new sweep_run same sweeps = record {
-    server = sweeps.server;
-    others_are = others_stay w new same sweeps.others_are;
-    p = sweeps.p;
-    locks = ap (λ servers. locks_in (slice_get servers s)) same ∙ sweeps.locks;
-    rest = sweeps.rest;
-    left = sweeps.left;
-    now = sweeps.now;
-  }
+  sweeps_stay w new sweep_run same sweeps = search arith
 
   finished_stays : (w new : World) (ending : Ending) → new.servers ≡ w.servers → HasFinished w ending → HasFinished new ending
-  finished_stays w new ending same finished = record {
-    others_are = others_stay w new same finished.others_are;
-    locks = ap (λ servers. locks_in (slice_get servers s)) same ∙ finished.locks;
-    broken = finished.broken;
-    finished = finished.finished;
-    is = finished.is;
-  }
+  finished_stays w new ending same finished = search arith
 
   busy_stays : (w : World) (stepped : Stepped) → Aside agent w stepped → Busy w → Busy stepped.world
   busy_stays w stepped aside busy = record { actor = busy.actor; there = aside.actor ∙ busy.there; sweep_run = busy.sweep_run; doing = busy.doing; sweeps = sweeps_stay w stepped.world busy.sweep_run aside.servers busy.sweeps }
@@ -71,15 +54,13 @@ module _ (given : Opening) (agent : ℕ) (first : World) (s : ℕ) (up : is_up f
 
   -- an outcome of another agent is none of this one
   not_other : (w : World) (stepped : Stepped) → Aside agent w stepped → (found : Option EndedJob) → stepped.done.outcome ≡ found → (rest : List EndedJob) (job : EndedJob) → Has (cons_option found rest) job → job.agent ≡ agent → Has rest job
-  not_other w stepped aside None is rest job has own = has
-  not_other w stepped aside (Some other) is rest job has own = elim has [ inl same ↦ absurd (aside.other job (is ∙ ap Some same) own) | inr later ↦ later ]
+  not_other w stepped h2 found h4 rest job h7 h8 = search arith
 
   -- ---- once it is over
 
   -- an idle agent asks nothing
   idle_quiet : (w : World) → Over w → is_some (step fixed w (Step agent)).done.served ≡ true → ⊥
-  idle_quiet w over is =
-      false≢true (sym (ap (λ found. is_some (steps_once fixed w agent found).done.served) over.there ∙ ap (λ doing. is_some (asks fixed w agent over.actor (next_in fixed doing)).done.served) over.idle) ∙ is)
+  idle_quiet w over is = search arith
 
   record Stays (w : World) (jobs : List EndedJob) (ending : Ending) : Type 0 where
     over : Over w
@@ -109,15 +90,7 @@ module _ (given : Opening) (agent : ℕ) (first : World) (s : ℕ) (up : is_up f
       of (then_does fixed w agent busy.actor busy.sweep_run went.st) went.doing went.ended (step_then fixed first s up rises w stepped.world busy.sweep_run busy.sweeps went.st went.stamp went.at went.servers)
     where
       of : (then : After SweepRun) → went.new.agent.doing ≡ left RunningSweep then → stepped.done.outcome ≡ outcome_of agent busy.actor (end_of then) → Then fixed first s up rises stepped.world then → Came w stepped rest
-      of (GoesOn sweep_run) doing ended sweeps = record { went = inl (record { actor = went.new; there = went.here; sweep_run = sweep_run; doing = doing; sweeps = sweeps }, ended) }
-      of (Ends ending) doing ended finished = record {
-        went = inr (
-          ending,
-          record { actor = went.new; there = went.here; idle = doing; ending = ending; finished = finished },
-          finished,
-          λ job is. ap (λ (job : EndedJob). job.ending) (sym (same_Some _ job (sym ended ∙ is))),
-        );
-      }
+      of then h1 h2 h3 = search (same_Some, arith)
 
   pub goes : (events : List Event) (w : World) → Busy w → unhindered_from given agent w events ≡ true → Result (after fixed w events) (outcomes (dones fixed w events))
   goes [] w busy calm = record { state = inl busy; ended = λ job has own. absurd has }
@@ -163,11 +136,7 @@ module _ (given : Opening) (events : List Event) (agent t server : ℕ) (begins 
   begun = (step (fixed_of given) world (Begin agent (Sweep server))).world
 
   pub rises : rise (locks_at world server) ≡ true
-  rises = of (server_at world server) refl up
-    where
-      of : (found : Option State) → server_at world server ≡ found → up_in found ≡ true → rise (locks_in found) ≡ true
-      of None is up = absurd (false≢true up)
-      of (Some st) is up = (all_consistent given events server st is).rising
+  rises = search (false≢true, all_consistent, arith)
 
   abbrev fresh : SweepRun
   fresh = record { server = server; broken = 0; finished = 0; left = 0; now = Listing }
@@ -197,13 +166,7 @@ module _ (given : Opening) (events : List Event) (agent t server : ℕ) (begins 
                 p = λ lock. true;
                 locks = sym (filter_all (λ lock. true) (locks_at world server) (λ lock has. refl));
                 rest = locks_at world server;
-                left = record {
-                  here = λ lock has is. inr has;
-                  kept = λ lock has is. refl;
-                  there = λ lock has. has;
-                  all = λ lock other has prepared in' same. has;
-                  counted = plain _;
-                };
+                left = search (plain, arith);
                 now = (refl, λ lock has. refl);
               };
             }

@@ -1,7 +1,7 @@
 -- What is promised to a transaction that is told what it would have been told as it began; and one that goes among locks that stay is told so.
-use Rattle.law_run_recovers.proofs.Vocabulary.{◌≡◌, ⊎_elim, ℕ, true, false, List, ◌∷◌, ◌++◌, Some, is_some, refl, sym, ap, subst, ◌∙◌, same_Some, Identity, Opening, Op, Request, Transaction, fixed_of, AreAnsweredAsBegun, EndInTime}
-use Rattle.law_run_recovers.proofs.Vocabulary.{HadVotesOpen, ToldEndByVotesAt, next_of, Event, Begin, Step, Actor, World, actor_at, step, run, is_running, world_after, robs, hinders_itself, GoesAmongLocks, AsAtItsBegin, bereaves}
-use Rattle.law_run_recovers.proofs.Vocabulary.{AmongLocksAreToldAsBegun, Always, AreDecidedWhereOpen, GatherTheirAsks, ToldAsAtItsBegin}
+use Rattle.law_run_recovers.proofs.Vocabulary.{◌≡◌, ⊎_elim, ℕ, true, false, List, ◌∷◌, ◌++◌, Some, is_some, sym, ap, subst, ◌∙◌, same_Some, Identity, Opening, Op, Request, Transaction, fixed_of, AreAnsweredAsBegun, EndInTime, arith, HadVotesOpen}
+use Rattle.law_run_recovers.proofs.Vocabulary.{ToldEndByVotesAt, next_of, Event, Begin, Step, Actor, World, actor_at, step, run, is_running, world_after, robs, hinders_itself, GoesAmongLocks, AsAtItsBegin, bereaves, AmongLocksAreToldAsBegun, Always}
+use Rattle.law_run_recovers.proofs.Vocabulary.{AreDecidedWhereOpen, GatherTheirAsks, ToldAsAtItsBegin}
 use Rattle.law_run_recovers.proofs.AmongAsks.{of_its_asks}
 use Rattle.law_run_recovers.proofs.AmongCourse.{Course, RunsIt, runs_it, both_so}
 use Rattle.law_run_recovers.proofs.AmongDecided.{answered_begun, was_gathered, was_had}
@@ -9,11 +9,10 @@ use Rattle.law_run_recovers.proofs.AmongLaws.{among_by_votes, among_where_votes}
 use Rattle.law_run_recovers.proofs.AmongLeft.{left_at}
 use Rattle.law_run_recovers.proofs.AmongStep.{near_for, request_is}
 use Rattle.law_run_recovers.proofs.AmongTime.{in_time}
-use Rattle.law_run_recovers.proofs.Apart.{event_apart}
 use Rattle.law_run_recovers.proofs.Keeps.{IsAtWork, as_at_its_begin, run_at, works}
 use Rattle.law_run_recovers.proofs.NearGround.{first_asked, opens_up}
 use Rattle.law_run_recovers.proofs.Sides.{ended_runs_not}
-use Rattle.law_run_recovers.proofs.Steady.{GoesSteadily, never_hindered, steady, told_steady}
+use Rattle.law_run_recovers.proofs.Steady.{GoesSteadily, steady, told_steady}
 use Rattle.law_run_recovers.proofs.Still.{IsOpen, IsOpenPhase}
 use Rattle.law_run_recovers.proofs.StepsServed.{OwnTook, own_took}
 
@@ -41,10 +40,7 @@ module _ (given : Opening) (events later : List Event) (agent t : ℕ) (caller :
     r = runs_it given events later agent t caller site ops actor goes so_far c
 
     served : is_some (step (fixed_of given) (world_after given events agent caller site ops so_far) (Step agent)).done.served ≡ true
-    served = ⊎_elim
-        (λ apart. absurd (apart.1 refl))
-        (λ own. own.1)
-        (event_apart given agent (then so_far) c.here c.there c.busy (Step agent) (never_hindered given events later agent t caller site ops actor among so_far rest (Step agent) split work.running))
+    served = search arith
 
     took : OwnTook (fixed_of given) (world_after given events agent caller site ops so_far) agent c.here c.there (step (fixed_of given) (world_after given events agent caller site ops so_far) (Step agent))
     took = own_took (fixed_of given) (then so_far) agent c.here c.there served
@@ -80,8 +76,7 @@ among_locks_are_told_as_begun given events later agent t caller site ops actor g
   can = goes.can;
   there = goes.there;
   begins = goes.begins;
-  same = λ so_far rest here asked split running untold there next.
-      same_so given events later agent t caller site ops actor goes so_far rest split (record { running = running; untold = untold }) here asked there next;
+  same = search (same_so, arith);
   free_hand = λ so_far rest event split running untold.
       let w = world_after given events agent caller site ops so_far in
       both_so (hinders_itself given agent w event) (robs given agent t w event) (bereaves given agent t w event) (goes.free_hand so_far rest event split running)
@@ -95,21 +90,16 @@ told_end_by_votes given events later agent t caller site ops actor goes job ends
     among_by_votes given events later agent t caller site ops actor (told_steady given events later agent t caller site ops actor goes) job ends
 
 pub told_end_in_time : Always (EndInTime ToldAsAtItsBegin)
-told_end_in_time given events later agent t caller site ops actor goes more =
-    in_time given events later agent t caller site ops actor (told_steady given events later agent t caller site ops actor goes) more
+told_end_in_time given events later agent t caller site ops actor goes more = search (in_time, told_steady, arith)
 
 pub told_had_votes_open : Always (HadVotesOpen ToldAsAtItsBegin)
-told_had_votes_open given events later agent t caller site ops actor goes was =
-    was_had given events later agent t caller site ops actor (told_steady given events later agent t caller site ops actor goes) was
+told_had_votes_open given events later agent t caller site ops actor goes was = search (was_had, told_steady, arith)
 
 pub told_are_decided_where_votes_are : Always (AreDecidedWhereOpen ToldAsAtItsBegin)
-told_are_decided_where_votes_are given events later agent t caller site ops actor goes unmoved job ends =
-    among_where_votes given events later agent t caller site ops actor (told_steady given events later agent t caller site ops actor goes) unmoved job ends
+told_are_decided_where_votes_are given events later agent t caller site ops actor goes unmoved job ends = search (among_where_votes, told_steady, arith)
 
 pub told_are_answered_as_begun : Always (AreAnsweredAsBegun ToldAsAtItsBegin)
-told_are_answered_as_begun given events later agent t caller site ops actor goes one there of_it =
-    answered_begun given events later agent t caller site ops actor (told_steady given events later agent t caller site ops actor goes) one there of_it
+told_are_answered_as_begun given events later agent t caller site ops actor goes one there of_it = search (answered_begun, told_steady, arith)
 
 pub told_gather_their_asks : Always (GatherTheirAsks ToldAsAtItsBegin)
-told_gather_their_asks given events later agent t caller site ops actor goes was =
-    was_gathered given events later agent t caller site ops actor (told_steady given events later agent t caller site ops actor goes) was
+told_gather_their_asks given events later agent t caller site ops actor goes was = search (was_gathered, told_steady, arith)

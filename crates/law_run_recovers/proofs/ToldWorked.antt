@@ -1,7 +1,7 @@
 -- A transaction that is told as at its begin, though a lock came in its way and went, by computation. And all runs that the laws are about.
-use Rattle.law_run_recovers.proofs.Vocabulary.{◌≡◌, ℕ, Bool, true, false, [], ◌∷◌, ◌++◌, Option, Some, None, refl, sym, ap, ◌∙◌, ◌==◌, ◌&&◌, ◌||◌, not, and_parts, eqb-true, eq-eqb, Opening, LockMode, Exclusive, Request, State, copy_of}
-use Rattle.law_run_recovers.proofs.Vocabulary.{Transaction, fixed_of, next_of, owner, a, Event, Begin, Step, Actor, World, server_at, actor_at, run, way_at, is_up, is_running, is_telling, hinders_itself, robs, bereaves, begun_world}
-use Rattle.law_run_recovers.proofs.Vocabulary.{world_after, puts, not-true, one_server, both_made, shows_same, SameWay, told_as_first, AsAtItsBegin, ToldAsAtItsBegin}
+use Rattle.law_run_recovers.proofs.Vocabulary.{◌≡◌, ℕ, Bool, true, false, [], ◌∷◌, ◌++◌, Option, Some, None, refl, sym, ap, ◌∙◌, ◌==◌, ◌&&◌, ◌||◌, not, and_parts, eqb-true, eq-eqb, Opening, LockMode, Exclusive, Request, State, copy_of, Transaction}
+use Rattle.law_run_recovers.proofs.Vocabulary.{fixed_of, next_of, owner, a, Event, Begin, Step, Actor, World, server_at, actor_at, run, way_at, is_up, is_running, is_telling, hinders_itself, robs, bereaves, begun_world, world_after, puts, not-true}
+use Rattle.law_run_recovers.proofs.Vocabulary.{one_server, both_made, shows_same, SameWay, told_as_first, AsAtItsBegin, ToldAsAtItsBegin}
 use Rattle.suite_prefix.specs.code.Equality.{same_prefix, same_prefix_decides}
 use Rattle.law_run_recovers.specs.LawsWorked.{read_between, IsToldAsAtItsBegin, SomeRunsShowTheLaws}
 use Rattle.rep_core.specs.declared.request.Request.TheVariants as request

@@ -1,10 +1,9 @@
 -- One try of a transaction where its votes are up: it is decided where its home is up, and leaves all as it was where it is not.
-use Rattle.law_run_recovers.proofs.Vocabulary.{◌≡◌, ◌⊎◌, inl, inr, ⊎_elim, ℕ, ◌+◌, true, false, cond, List, [], ◌∷◌, ◌++◌, append-nil, length, Some, None, is_some, refl, sym, ap, subst, ◌∙◌, ◌&&◌, not, none_of as idle_none, false≢true}
-use Rattle.law_run_recovers.proofs.Vocabulary.{none-some, same_Some, Identity, Opening, Prefix, Op, reply_of, Cache, Transaction, home_of, after_reply, Agent, fixed_of, next_in, begin, started, Event, Begin, Step, Actor, World, server_at}
-use Rattle.law_run_recovers.proofs.Vocabulary.{actor_at, has_no_job, step, dones, outcomes, run, table_of, machine_of, all_keep, is_decided, all_consistent, is_up, up_free, Demand, demands, first_short, is_met, all_met, led_to, led_to_by}
-use Rattle.law_run_recovers.proofs.Vocabulary.{newer_from, MayStart, VotesAreUp, GoesAlone, answer_on, OneIsDecided, is_open_at, way_at, begun_world, world_after}
+use Rattle.law_run_recovers.proofs.Vocabulary.{◌≡◌, ◌⊎◌, inl, inr, ⊎_elim, ℕ, ◌+◌, true, false, cond, List, [], ◌∷◌, ◌++◌, append-nil, length, Some, None, is_some, refl, sym, ap, subst, ◌∙◌, ◌&&◌, not, none_of as idle_none, false≢true, arith}
+use Rattle.law_run_recovers.proofs.Vocabulary.{none-some, same_Some, Identity, Opening, Prefix, Op, reply_of, Cache, Transaction, home_of, after_reply, Agent, fixed_of, begin, started, Event, Begin, Step, Actor, World, actor_at, has_no_job, step}
+use Rattle.law_run_recovers.proofs.Vocabulary.{dones, outcomes, run, table_of, machine_of, all_keep, all_consistent, is_up, up_free, Demand, first_short, is_met, all_met, led_to, led_to_by, newer_from, MayStart, VotesAreUp, GoesAlone, answer_on}
+use Rattle.law_run_recovers.proofs.Vocabulary.{OneIsDecided, begun_world, world_after}
 use Rattle.law_one_table.proofs.Effects as effects
-use Rattle.law_run_recovers.specs.Ends as laws
 use Rattle.law_run_recovers.proofs.AloneKept.{up_same, many, free_then, table_same, shown_then}
 use Rattle.law_run_recovers.proofs.AloneLaws.{steadily, calm, now_at, own_then}
 use Rattle.law_run_recovers.proofs.AmongCourse.{Course, RunsIt, runs_it, course_runs, next_is, apart_on}
@@ -81,14 +80,10 @@ module _ (given : Opening) (events later : List Event) (agent t : ℕ) (caller :
   )
     where
       begin_is : begin (fixed_of given) actor.agent (Transaction caller site ops) ≡ record (started (fixed_of given) actor.agent (Transaction caller site ops)) { count = actor.agent.count + 1 }
-      begin_is =
-          ap (λ b. cond b (record (started (fixed_of given) actor.agent (Transaction caller site ops)) { count = actor.agent.count + 1 }) actor.agent)
-          (begun given events later agent t caller site ops actor steady_so).1
+      begin_is = search (begun, arith)
 
       here_so : begun_actor given events later agent t caller site ops actor goes.can goes.there goes.begins ≡ (first_course given events later agent t caller site ops actor steady_so).here
-      here_so = same_Some _ _
-          (sym (begun_there given events later agent t caller site ops actor goes.can goes.there goes.begins)
-          ∙ (first_course given events later agent t caller site ops actor steady_so).there)
+      here_so = search (same_Some, begun_there, first_course, arith)
 
   module _ (so_far rest : List Event) (event : Event) (split : later ≡ so_far ++ event ∷ rest) where
     next_so : world_after given events agent caller site ops (so_far ++ event ∷ []) ≡ (step (fixed_of given) (world_after given events agent caller site ops so_far) event).world
@@ -100,13 +95,7 @@ module _ (given : Opening) (events later : List Event) (agent t : ℕ) (caller :
 
     -- who is idle stays so
     idle_on : IsIdle so_far → Along (so_far ++ event ∷ [])
-    idle_on idle = ⊎_elim
-        (λ aside. inr (record { here = idle.here; there = ap (λ w. actor_at w agent) next_so ∙ aside.actor ∙ idle.there; none = idle.none; led = idle.led }))
-        (λ own.
-        let took = own_took (fixed_of given) (world_at so_far) agent idle.here idle.there
-        (subst (λ event. is_some (step (fixed_of given) (world_after given events agent caller site ops so_far) event).done.served ≡ true) own.0 own.1) in
-        absurd (none-some took.asked (sym (ap (next_in (fixed_of given)) idle.none) ∙ took.next)))
-        aside_or
+    idle_on idle = search (next_so, own_took, none-some, aside_or, arith)
 
     module _ (c : CourseAt so_far) (led : LedTo c.here.agent.cache) where
       -- another's event leaves it as it was
@@ -127,8 +116,7 @@ module _ (given : Opening) (events later : List Event) (agent t : ℕ) (caller :
           split' = split ∙ ap (λ event. so_far ++ event ∷ rest) own
 
           took : OwnTook (fixed_of given) (world_after given events agent caller site ops so_far) agent c.here c.there (step (fixed_of given) (world_after given events agent caller site ops so_far) (Step agent))
-          took = own_took (fixed_of given) (world_at so_far) agent c.here c.there
-              (subst (λ event. is_some (step (fixed_of given) (world_after given events agent caller site ops so_far) event).done.served ≡ true) own served)
+          took = search (own_took, arith)
 
           runs : RunsIt given events later agent t caller site ops actor steady_so so_far c
           runs = runs_it given events later agent t caller site ops actor steady_so so_far c
@@ -154,8 +142,7 @@ module _ (given : Opening) (events later : List Event) (agent t : ℕ) (caller :
           (course_runs given events later agent t caller site ops actor steady_so so_far c)))
 
     along_on : Along so_far → Along (so_far ++ event ∷ [])
-    along_on (inl on) = course_on on.0 on.1
-    along_on (inr idle) = idle_on idle
+    along_on h0 = grind (course_on, idle_on, arith)
 
   along_at : Along later
   along_at = along later Along along_on along_first later [] (sym (append-nil later))
@@ -186,9 +173,7 @@ module _ (given : Opening) (events later : List Event) (agent t : ℕ) (caller :
             job = it.job;
             there = it.ends.there;
             of_it = own_then given events later agent t caller site ops actor goes it.job it.ends;
-            decided = ap is_decided (by.ends
-                ∙ ap (λ found. laws.ending_by found home answer) (none_of (demands (fixed_of given) (run given events) (table_of given events) t caller ops by.start) (met by.start by.from))
-                ∙ ap (λ up. laws.ending_by None up answer) up) ∙ decided_ending answer;
+            decided = search (none_of, decided_ending, arith);
           }
 
     -- what is there then
@@ -210,11 +195,7 @@ module _ (given : Opening) (events later : List Event) (agent t : ℕ) (caller :
 
       -- all are open to it that are up
       open_all : (z i : ℕ) → finds_at (sight given events later agent t caller site ops actor steady_so) z i ≡ is_up (run given events) i
-      open_all z i =
-          let mode = first_asked given events later agent t caller site ops actor steady_so z in
-          ap (λ b. b && is_open_at (run given events) t z mode i)
-          (near_among given events later agent t caller site ops actor (alone_is_unmet given events later agent t caller site ops actor goes) i (near_alone given events later agent t caller site ops actor goes i))
-          ∙ open_where_free (way_at (run given events) t z mode i) (is_up (run given events) i) (plain_way t z mode (server_at (run given events) i)) (clear_first given events later agent t caller site ops actor goes z mode i)
+      open_all z i = search (first_asked, near_among, alone_is_unmet, near_alone, open_where_free, plain_way, clear_first, arith)
 
       led_last : (z : ℕ) (start : Prefix) → MayStart (fixed_of given) actor.agent.cache site z start → newer_from (fixed_of given) (run given events) z (led_to (fixed_of given) (run given events) z start) ≡ None
       led_last z start may =

@@ -1,11 +1,10 @@
 -- A transaction that nobody robs: until its end is fixed no server has it recorded.
-use Rattle.law_run_recovers.proofs.Vocabulary.{◌≡◌, ⊎_elim, ℕ, ◌+◌, Bool, true, false, cond, List, Option, Some, None, is_some, refl, sym, ap, subst, ◌∙◌, arith, ◌*◌, ◌==◌, ◌&&◌, ◌||◌, not, slice_get, slice_set, false≢true, eqb-true}
-use Rattle.law_run_recovers.proofs.Vocabulary.{eq-eqb, false_from_ne_true, none-some, same_Some, Opening, IsAccepted, LockMode, Exclusive, AuditItem, Lock, Verdict, Request, in_the_way, has_lock, with_prepared, intended, State, record_of}
-use Rattle.law_run_recovers.proofs.Vocabulary.{served, Replied, is_decide, Agent, fixed_of, begin, forget, take_in, next_of, Served, Event, Begin, Step, Crash, Return, Forget, Lack, Actor, World, server_at, actor_at, step, decisions, run}
-use Rattle.law_run_recovers.proofs.Vocabulary.{names, may_sweep, same_place, agents_ask_for_themselves, holds_of, same_or, agent_of, puts_in, takes, robs, hinders_itself, bereaves}
+use Rattle.law_run_recovers.proofs.Vocabulary.{◌≡◌, ⊎_elim, ℕ, ◌+◌, Bool, true, false, List, Option, Some, None, is_some, refl, sym, ap, subst, ◌∙◌, arith, ◌*◌, ◌==◌, ◌||◌, slice_get, slice_set, false≢true, eqb-true, eq-eqb, false_from_ne_true}
+use Rattle.law_run_recovers.proofs.Vocabulary.{none-some, same_Some, Opening, IsAccepted, LockMode, AuditItem, Lock, Verdict, Request, State, record_of, served, Replied, is_decide, Agent, fixed_of, begin, forget, take_in, next_of, Served, Event}
+use Rattle.law_run_recovers.proofs.Vocabulary.{Begin, Step, Crash, Return, Forget, Lack, Actor, World, server_at, actor_at, step, decisions, run, names, may_sweep, same_place, agents_ask_for_themselves, holds_of, same_or, agent_of, puts_in, takes}
+use Rattle.law_run_recovers.proofs.Vocabulary.{robs, hinders_itself, bereaves}
 use Rattle.rep_core.proofs.Records.{record_apart}
-use Rattle.rep_core.specs.Service.{after, after_locking, after_poll, after_record, after_up, after_down, prepares, verdict_of, audit_of, reply_of}
-use Rattle.rep_core.specs.declared.reply.Verdict.TheVariants as verdict
+use Rattle.rep_core.specs.Service.{after, after_locking, after_record, after_up, after_down, reply_of}
 use Rattle.rep_core.specs.declared.request.Request.TheVariants as request
 use Rattle.law_run_recovers.proofs.AtWork.{takes_nothing}
 use Rattle.law_run_recovers.proofs.Keeps.{IsAtWork, Works, works, last_of, step_asks, operates_it, becomes_none, lacks_none}
@@ -26,33 +25,20 @@ apart_from a b apart same = false≢true (sym apart ∙ eq-eqb a b (sym same))
 
 module _ (st : State) (t : ℕ) where
   locking_same : (other : Option Lock) (u suite : ℕ) (m : LockMode) → record_of (after_locking other u suite m st) t ≡ record_of st t
-  locking_same None u suite m = refl
-  locking_same (Some other) u suite m = refl
+  locking_same other u suite m = search arith
 
   record_same : (old : Option Verdict) (u : ℕ) (v : Verdict) (item : Option AuditItem) → (u == t) ≡ false → record_of (after_record old u v item st) t ≡ record_of st t
   record_same (Some old) u v item apart = refl
   record_same None u v item apart = record_apart st u t v item (apart_from u t apart)
 
   up_same : (asked : Request) → fixes t asked ≡ false → record_of (after_up st asked) t ≡ record_of st t
-  up_same (request.Poll u suite m) calm = locking_same (in_the_way u suite m st.locks) u suite m
-  up_same (request.Upgrade u suite) calm =
-      elim (has_lock u suite st.locks) as (λ b. record_of (cond b (after_poll st u suite Exclusive) st) t ≡ record_of st t) [ true ↦ locking_same (in_the_way u suite Exclusive st.locks) u suite Exclusive | false ↦ refl ]
-  up_same (request.Prepare u parts) calm =
-      elim (prepares st u parts) as (λ b. record_of (cond b (record st { store = intended u parts st.store; locks = with_prepared u parts st.locks }) st) t ≡ record_of st t) [ true ↦ refl | false ↦ refl ]
-  up_same (request.Decide u decision) calm = record_same (record_of st u) u (verdict_of decision) (audit_of u decision) calm
-  up_same (request.Resolve u) calm = record_same (record_of st u) u verdict.Aborted None calm
-  up_same other calm = refl
+  up_same asked h1 = search (locking_same, record_same, arith)
 
   down_same : (asked : Request) → record_of (after_down st asked) t ≡ record_of st t
-  down_same (request.Poll u suite m) = refl
-  down_same other = refl
+  down_same asked = search arith
 
   pub after_same : (asked : Request) → (st.up ≡ true → fixes t asked ≡ false) → record_of (after st asked) t ≡ record_of st t
-  after_same asked calm = of st.up refl
-    where
-      of : (b : Bool) → st.up ≡ b → record_of (cond b (after_up st asked) (after_down st asked)) t ≡ record_of st t
-      of true up = up_same asked (calm up)
-      of false down = down_same asked
+  after_same asked calm = search (up_same, down_same, arith)
 
 -- ---- one event
 
@@ -75,12 +61,7 @@ module _ (given : Opening) (accepted : IsAccepted given) (all : List Event) (age
       false≢true (sym apart ∙ eq-eqb other agent places.1))
 
   unresolved : (st : State) (u : ℕ) → record_of st t ≡ None → takes t st (request.Resolve u) ≡ false → (u == t) ≡ false
-  unresolved st u free calm = of (u == t) (record_of st t) free calm
-    where
-      of : (b : Bool) (found : Option Verdict) → found ≡ None → (b && not (is_some found)) ≡ false → b ≡ false
-      of false found free calm = refl
-      of true None free calm = absurd (false≢true (sym calm))
-      of true (Some v) free calm = absurd (none-some v (sym free))
+  unresolved st u free calm = search arith
 
   module _ (event : Event) (spared : (hinders_itself given agent w event || (robs given agent t w event || bereaves given agent t w event)) ≡ false) (still : IsAtWork (step (fixed_of given) w event).world agent t) where
     fixes_none : (what : Served) (st : State) → (step (fixed_of given) w event).done.served ≡ Some what → server_at w what.server ≡ Some st → st.up ≡ true → fixes t what.request.value ≡ false

@@ -1,9 +1,9 @@
 -- What is promised to a transaction that nobody meets, by servers that are up: it goes among locks none of which is in its way, so who is up is open to it.
-use Rattle.law_run_recovers.proofs.Vocabulary.{◌≡◌, inl, inr, ℕ, Bool, true, false, cond, List, [], ◌∷◌, ◌++◌, length, Option, Some, None, refl, sym, ap, subst, ◌∙◌, ◌&&◌, not, nat_lt, map, option_map, Contains, false≢true, and_parts}
-use Rattle.law_run_recovers.proofs.Vocabulary.{none-some, same_Some, Identity, Representative, Configuration, votes_in, votes_in-wider, Opening, Prefix, LockMode, Op, row_of, Has, contains_from, needed_of, home_of, fixed_of, Event}
-use Rattle.law_run_recovers.proofs.Vocabulary.{EndedJob, Actor, World, server_at, run, table_of, is_decided, is_up, Demand, demand, is_met, all_met, demands, demands_of_rows, first_short, led_to, votes_set, votes_of_row, MayStart}
-use Rattle.law_run_recovers.proofs.Vocabulary.{MayStartAll, EndsByVotes, ending_by, answer_on, asks_for, is_open_way, is_way_met, way_at, is_open_at, in_its_way, GoesUnmet, EndsOpenly, first_wanting, has_votes_open, UnmetAreAmongLocks}
-use Rattle.law_run_recovers.proofs.Vocabulary.{Want, open_demand, open_demands, first_mode, wants, wants_of_rows, EndsThen, VotesNeverMovedOf, Always, UnmetAreDecidedWhereVotesAreAt, UnmetEndByVotesAt}
+use Rattle.law_run_recovers.proofs.Vocabulary.{◌≡◌, inl, inr, ℕ, Bool, true, false, cond, List, [], ◌∷◌, ◌++◌, length, Option, Some, None, refl, sym, ap, subst, ◌∙◌, ◌&&◌, nat_lt, map, option_map, Contains, false≢true, and_parts, arith, none-some}
+use Rattle.law_run_recovers.proofs.Vocabulary.{same_Some, Identity, Representative, Configuration, votes_in, votes_in-wider, Opening, Prefix, LockMode, Op, row_of, Has, contains_from, home_of, fixed_of, Event, EndedJob, Actor, World, run, table_of}
+use Rattle.law_run_recovers.proofs.Vocabulary.{is_decided, is_up, Demand, demand, is_met, all_met, demands, demands_of_rows, first_short, led_to, votes_set, votes_of_row, MayStart, MayStartAll, EndsByVotes, ending_by, answer_on, asks_for}
+use Rattle.law_run_recovers.proofs.Vocabulary.{is_open_way, is_way_met, is_open_at, in_its_way, GoesUnmet, EndsOpenly, first_wanting, has_votes_open, UnmetAreAmongLocks, Want, open_demand, open_demands, first_mode, wants, EndsThen, VotesNeverMovedOf}
+use Rattle.law_run_recovers.proofs.Vocabulary.{Always, UnmetAreDecidedWhereVotesAreAt, UnmetEndByVotesAt}
 use Rattle.law_run_recovers.proofs.Steady.{GoesSteadily, steady}
 use Rattle.law_run_recovers.proofs.AmongLaws.{map_members, among_by_votes, found_by, led_first, row_first}
 use Rattle.law_run_recovers.proofs.NearRows.{first_in, start_near, same_so_far, open_is_up}
@@ -20,30 +20,17 @@ up_demand world want = demand world want.suite want.mode want.votes
 
 -- what is had of open servers is of servers that are up
 open_up : (world : World) (t : ℕ) (want : Want) → is_met (open_demand world t want) ≡ true → is_met (up_demand world want) ≡ true
-open_up world t want met =
-    up_to (needed_of want.mode want.votes) (votes_in want.votes.reps (is_open_at world t want.suite want.mode)) (votes_in want.votes.reps (is_up world)) met
-    (votes_in-wider want.votes.reps (is_open_at world t want.suite want.mode) (is_up world) (λ server is. up_of t want.suite want.mode (server_at world server) is))
+open_up world t want met = search (up_to, votes_in-wider, up_of, arith)
 
 all_up : (world : World) (t : ℕ) (all : List Want) → all_met (open_demands world t all) ≡ true → all_met (map (up_demand world) all) ≡ true
 all_up world t [] met = refl
-all_up world t (want ∷ all) met =
-    let parts = and_parts (is_met (open_demand world t want)) (all_met (open_demands world t all)) met in
-    ap (λ b. b && all_met (map (up_demand world) all)) (open_up world t want parts.0) ∙ all_up world t all parts.1
+all_up world t (want ∷ all) met = search (and_parts, open_up, all_up world t all, arith)
 
 -- the first that is short by open servers is short by those that are up, where they have the same votes of it
 first_up : (world : World) (t : ℕ) (all : List Want) (found : Option Want) → first_wanting world t all ≡ found → ((want : Want) → found ≡ Some want → open_demand world t want ≡ up_demand world want)
     → first_short (map (up_demand world) all) ≡ option_map (open_demand world t) found
 first_up world t [] found is same = ap (option_map (open_demand world t)) is
-first_up world t (want ∷ all) found is same = of (is_met (open_demand world t want)) refl is (first_up world t all found)
-  where
-    of : (b : Bool) → is_met (open_demand world t want) ≡ b → cond (not b) (Some want) (first_wanting world t all) ≡ found
-        → (first_wanting world t all ≡ found → ((want : Want) → found ≡ Some want → open_demand world t want ≡ up_demand world want) → first_short (map (up_demand world) all) ≡ option_map (open_demand world t) found)
-        → first_short (map (up_demand world) (want ∷ all)) ≡ option_map (open_demand world t) found
-    of true met is go = ap (λ b. cond (not b) (Some (up_demand world want)) (first_short (map (up_demand world) all))) (open_up world t want met) ∙ go is same
-    of false short is go =
-        let here = same want (sym is) in
-        ap (λ b. cond (not b) (Some (up_demand world want)) (first_short (map (up_demand world) all))) (ap is_met (sym here) ∙ short)
-        ∙ ap (λ one. Some one) (sym here) ∙ ap (option_map (open_demand world t)) is
+first_up world t (want ∷ all) found is same = search (open_up, first_up world t all found, arith)
 
 -- what is demanded of wants
 fronts_of : {X : Type 0} (d : Want → Demand) (f : X → Want) (g : X → Demand) (xs : List X) (later : List Want) (others : List Demand) → ((x : X) → Has xs x → d (f x) ≡ g x) → map d later ≡ others
@@ -57,25 +44,12 @@ maps_of d f g (x ∷ xs) same = ap (λ y. y ∷ map d (map f xs)) (same x) ∙ a
 
 -- nothing is in the way there, so it is open where it is up
 pub open_where_free : (way : Option (Option ℕ)) (up : Bool) → (is_way_met way ≡ false → way ≡ cond up (Some None) None) → is_way_met way ≡ false → is_open_way way ≡ up
-open_where_free way true so free = ap is_open_way (so free)
-open_where_free way false so free = ap is_open_way (so free)
+open_where_free way up h2 h3 = search arith
 
 -- has_votes_open is more than that the votes are up
 pub open_is_more : (given : Opening) (events : List Event) (t : ℕ) (caller : Identity) (ops : List Op) → has_votes_open given events t caller ops ≡ true
     → (all_met (demands_of_rows (fixed_of given) (run given events) (table_of given events) t caller ops) && is_up (run given events) (home_of (fixed_of given).service t)) ≡ true
-open_is_more given events t caller ops has =
-    let world = run given events in
-    let table = table_of given events in
-    let up = is_up world (home_of (fixed_of given).service t) in
-    let rows = wants_of_rows (fixed_of given) table t caller ops in
-    let parts = and_parts (all_met (open_demands world t rows)) up has in
-    let set : List (ℕ × Configuration) = votes_set table t caller ops in
-    let same : map (up_demand world) rows ≡ demands_of_rows (fixed_of given) world table t caller ops =
-    fronts_of (up_demand world) (λ (one : ℕ × LockMode). record { suite = one.0; mode = one.1; votes = votes_of_row (fixed_of given) (row_of table.rows one.0) })
-    (λ (one : ℕ × LockMode). demand world one.0 one.1 (votes_of_row (fixed_of given) (row_of table.rows one.0))) (asks_for given events t caller ops) (map of_votes set)
-    (map (λ (one : ℕ × Configuration). record { suite = one.0; got = votes_in one.1.reps (is_up world); needed = one.1.w }) set) (λ one has. refl)
-    (maps_of (up_demand world) of_votes (λ (one : ℕ × Configuration). record { suite = one.0; got = votes_in one.1.reps (is_up world); needed = one.1.w }) set (λ one. refl)) in
-    ap (λ b. b && up) (sym (ap all_met same) ∙ all_up world t rows parts.0) ∙ parts.1
+open_is_more given events t caller ops has = search (and_parts, fronts_of, of_votes, maps_of, all_up, arith)
 
 module _ (given : Opening) (events later : List Event) (agent t : ℕ) (caller : Identity) (site : ℕ) (ops : List Op) (actor : Actor) (goes : GoesUnmet given events later agent t caller site ops actor) where
   abbrev world : World
@@ -102,13 +76,7 @@ module _ (given : Opening) (events later : List Event) (agent t : ℕ) (caller :
 
   demands_are : (start : ℕ → Prefix) → MayStartAll (fixed_of given) actor.agent.cache site start
       → map (up_demand (run given events)) (wants (fixed_of given) (run given events) (table_of given events) t caller ops start) ≡ demands (fixed_of given) (run given events) (table_of given events) t caller ops start
-  demands_are start may =
-      fronts_of (up_demand (run given events)) (λ (one : ℕ × LockMode). record { suite = one.0; mode = one.1; votes = (found_by given events later agent t caller site ops actor among one (start one.0)).votes })
-      (λ (one : ℕ × LockMode). demand (run given events) one.0 one.1 (led_to (fixed_of given) (run given events) one.0 (start one.0)).votes) asked (map of_votes (votes_set (table_of given events) t caller ops))
-      (map (λ (one : ℕ × Configuration). record { suite = one.0; got = votes_in one.1.reps (is_up (run given events)); needed = one.1.w }) (votes_set (table_of given events) t caller ops))
-      (λ one has. ap (λ (prefix : Prefix). demand (run given events) one.0 one.1 prefix.votes) (led_same one has (start one.0) (may one.0)))
-      (maps_of (up_demand (run given events)) of_votes (λ (one : ℕ × Configuration). record { suite = one.0; got = votes_in one.1.reps (is_up (run given events)); needed = one.1.w }) (votes_set (table_of given events) t caller ops)
-      (λ one. refl))
+  demands_are start may = search (fronts_of, found_by, of_votes, led_same, maps_of, arith)
 
   the : Demand → Demand
   the one = one
@@ -117,11 +85,7 @@ module _ (given : Opening) (events later : List Event) (agent t : ℕ) (caller :
   short_up : (want : Want) → ((rep : Representative) → Contains want.votes.reps rep → nat_lt 0 rep.1 ≡ true → in_its_way (run given events) t want.suite want.mode rep.0 ≡ false)
       → open_demand (run given events) t want ≡ up_demand (run given events) want
   unfolding the
-  short_up want free =
-      ap (λ n. the (record { suite = want.suite; got = n; needed = needed_of want.mode want.votes }))
-      (votes_alike want.votes.reps (is_open_at (run given events) t want.suite want.mode) (is_up (run given events))
-      (λ rep has some. open_where_free (way_at (run given events) t want.suite want.mode rep.0) (is_up (run given events) rep.0) (plain_way t want.suite want.mode (server_at (run given events) rep.0))
-      (free rep (contains_from want.votes.reps rep has) some)))
+  short_up want free = search (the, votes_alike, open_where_free, plain_way, contains_from, arith)
 
   ending_of_first : (start : ℕ → Prefix) (job : EndedJob) (found : Option Want) → first_wanting (run given events) t (wants (fixed_of given) (run given events) (table_of given events) t caller ops start) ≡ found
       → EndsOpenly given events t caller ops among.near job.ending found

@@ -1,7 +1,7 @@
 -- What a transaction that nobody robs finds at each moment at which it is at work: no server has it recorded, its locks are there, and what it knows is so on the table of that moment.
-use Rattle.law_run_recovers.proofs.Vocabulary.{◌≡◌, ℕ, List, [], ◌∷◌, ◌++◌, append_assoc, Option, Some, None, refl, sym, ap, subst, ◌∙◌, true, false, ◌||◌, Identity, Opening, Op, Verdict, Request, State, record_of, Transaction}
-use Rattle.law_run_recovers.proofs.Vocabulary.{TransactionRun, Running, fixed_of, next_of, stands_on_locks, Event, Begin, Actor, World, server_at, actor_at, step, run, machine_of, CanBe, begins_job, no_record, Finds, HasSome, finds}
-use Rattle.law_run_recovers.proofs.Vocabulary.{stands_where, Stands, Carried, carried_by, world_after, robs, hinders_itself, bereaves}
+use Rattle.law_run_recovers.proofs.Vocabulary.{◌≡◌, ℕ, List, [], ◌∷◌, ◌++◌, append_assoc, Some, None, sym, ap, subst, ◌∙◌, true, false, ◌||◌, Identity, Opening, Op, Request, State, record_of, Transaction, arith, TransactionRun, Running, fixed_of}
+use Rattle.law_run_recovers.proofs.Vocabulary.{next_of, stands_on_locks, Event, Begin, Actor, World, server_at, actor_at, run, machine_of, CanBe, begins_job, no_record, Finds, HasSome, finds, stands_where, Stands, Carried, carried_by, world_after}
+use Rattle.law_run_recovers.proofs.Vocabulary.{robs, hinders_itself, bereaves}
 use Rattle.law_run_alone.proofs.Holding.{PhaseStands, doing_any}
 use Rattle.law_run_recovers.proofs.AtWork.{locks_stand}
 use Rattle.law_run_recovers.proofs.Keeps.{IsAtWork, after_append, run_at, at_work_before}
@@ -27,23 +27,13 @@ module _ (given : Opening) (events later : List Event) (agent t : ℕ) (caller :
   Unrecorded w = (i : ℕ) (st : State) → server_at w i ≡ Some st → record_of st t ≡ None
 
   unrecorded_first : Unrecorded (world_at [])
-  unrecorded_first i st at = of (record_of st t) refl
-    where
-      of : (found : Option Verdict) → record_of st t ≡ found → record_of st t ≡ None
-      of None is = is
-      of (Some v) is = absurd (no_record given can.accepted events agent t (Transaction caller site ops) begins_so i st (sym (begun_servers given events later agent t caller site ops actor can there begins_so i) ∙ at) v is)
+  unrecorded_first i st at = search (no_record, begun_servers, arith)
 
   work_before : (so_far more : List Event) → IsAtWork (world_at (so_far ++ more)) agent t → IsAtWork (world_at so_far) agent t
   work_before = at_work_before given events later agent t caller site ops actor can there begins_so
 
   unrecorded_then : (so_far rest : List Event) (event : Event) → later ≡ so_far ++ event ∷ rest → IsAtWork (world_at (so_far ++ event ∷ [])) agent t → Unrecorded (world_at so_far) → Unrecorded (world_at (so_far ++ event ∷ []))
-  unrecorded_then so_far rest event is at none =
-      let now = subst (λ w. IsAtWork w agent t) (is_run so_far) (work_before so_far (event ∷ []) at) in
-      let calm = subst (λ w. (hinders_itself given agent w event || (robs given agent t w event || bereaves given agent t w event)) ≡ false) (is_run so_far) (spares so_far rest event is (work_before so_far (event ∷ []) at)) in
-      let next : world_at (so_far ++ event ∷ []) ≡ (step (fixed_of given) (run given (so_all so_far)) event).world = after_append (fixed_of given) so_far (event ∷ [])
-      (world_at []) ∙ ap (λ w. (step (fixed_of given) w event).world) (is_run so_far) in
-      subst Unrecorded (sym next)
-      (unrecorded_next given can.accepted (so_all so_far) agent t now (subst Unrecorded (is_run so_far) none) event calm (subst (λ w. IsAtWork w agent t) next at))
+  unrecorded_then so_far rest event is at none = search (is_run, work_before, after_append, unrecorded_next, arith)
 
   -- no server has it recorded
   pub unrecorded_at : (so_far rest : List Event) → later ≡ so_far ++ rest → IsAtWork (world_at so_far) agent t → Unrecorded (world_at so_far)

@@ -1,14 +1,13 @@
 -- An event that takes nothing of a transaction leaves the locks standing that it was told of, whoever asks for it.
-use Rattle.law_run_recovers.proofs.Vocabulary.{◌≡◌, ℕ, Bool, true, false, cond, List, [], ◌∷◌, Option, Some, None, refl, sym, ap, subst, ◌∙◌, ◌==◌, ◌&&◌, ◌||◌, not, find, unwrap_or, list_any, false≢true, and_parts, eqb-true, none-some}
-use Rattle.law_run_recovers.proofs.Vocabulary.{Opening, Lock, Request, Reply, Stamped, is_own, lock_at, State, reply_up, reply_down, reply_of, is_full, answer_of, find_some, has_any, Job, Replied, Lacked, fixed_of, next_of, take, begin}
-use Rattle.law_run_recovers.proofs.Vocabulary.{Served, Event, Begin, Step, Crash, Return, Forget, Lack, Actor, server_at, actor_at, answered, asks_at, asks, steps_once, operated, operates, step, Beginning, ended_as, hold_of, ShowsAt, Shows}
-use Rattle.law_run_recovers.proofs.Vocabulary.{beginning, decision_by, own_events, run-append, StandsAs, Stands, Spares, AllSpare, stands_all, spare_begun, spare_own, spare_decision, spare_moves, takes, drops, and_from, or_parts, eq-eqb}
+use Rattle.law_run_recovers.proofs.Vocabulary.{◌≡◌, ℕ, Bool, true, false, cond, List, [], ◌∷◌, Option, Some, None, refl, sym, ap, subst, ◌∙◌, ◌==◌, ◌&&◌, ◌||◌, not, find, unwrap_or, list_any, false≢true, and_parts, eqb-true, none-some, arith}
+use Rattle.law_run_recovers.proofs.Vocabulary.{Opening, Lock, Request, Reply, Stamped, is_own, lock_at, State, reply_of, is_full, answer_of, find_some, has_any, Job, Replied, Lacked, fixed_of, next_of, take, Served, Event, Begin, Step, Crash, Return}
+use Rattle.law_run_recovers.proofs.Vocabulary.{Forget, Lack, Actor, server_at, actor_at, answered, asks_at, asks, steps_once, operated, operates, step, Beginning, ended_as, hold_of, ShowsAt, Shows, beginning, decision_by, own_events, run-append}
+use Rattle.law_run_recovers.proofs.Vocabulary.{Stands, Spares, AllSpare, stands_all, spare_own, spare_decision, spare_moves, takes, drops, and_from, or_parts, eq-eqb}
 use Rattle.law_suite_machine.specs.Events.{kept, lost, finished, run}
-use Rattle.law_suite_machine.proofs.Places.{at2}
 use Rattle.law_server_moves.specs.Moves.{left_by_break, left_by_crash, moves, is_prepared}
 use Rattle.rep_core.specs.declared.stamped.Lack.{Lack as Why}
 use Rattle.law_suite_machine.specs.Machine.{Hold, Verdict, World}
-use Rattle.law_run_machine.specs.Machines.{moved, home_in, servers_of, answered_events, asked_at_events, asked_events, step_events, lacks_for_events, lack_events, begin_events, operated_events, operator_events}
+use Rattle.law_run_machine.specs.Machines.{moved, home_in, servers_of, answered_events, asked_at_events, asked_events, step_events, lack_events, begin_events, operated_events, operator_events}
 use Rattle.rep_core.specs.declared.request.Request.TheVariants as request
 use Rattle.rep_core.specs.declared.reply.Reply.TheVariants as reply
 use Rattle.rep_core.specs.declared.reply.Verdict as replied
@@ -22,11 +21,7 @@ use Rattle.law_run_recovers.proofs.Aside.{both_false}
 
 none_any : {X : Type 0} (p q : X → Bool) (xs : List X) → ((x : X) → q x ≡ true → p x ≡ true) → list_any p xs ≡ false → find q xs ≡ None
 none_any p q [] so is = refl
-none_any p q (x ∷ xs) so is = of (q x) refl (none_any p q xs so (or_parts (p x) (list_any p xs) is).1)
-  where
-    of : (b : Bool) → q x ≡ b → find q xs ≡ None → cond b (Some x) (find q xs) ≡ None
-    of false other none = none
-    of true passes none = absurd (false≢true (sym (or_parts (p x) (list_any p xs) is).0 ∙ so x passes))
+none_any p q (x ∷ xs) so is = search (or_parts, false≢true, none_any p q xs so, arith)
 
 own_t : (t z : ℕ) (lock : Lock) → is_own t z lock ≡ true → (lock.t == t) ≡ true
 own_t t z lock is = (and_parts (lock.t == t) (lock.suite == z) is).0
@@ -50,43 +45,27 @@ found_prepared t z p locks so none h is = of (lock_at t z locks) refl is
 
 module _ (w : World) (t : ℕ) (stands : Stands w t) where
   stands_finish : (i u : ℕ) (v : Verdict) → (t ≡ u → w.lock i t ≡ None) → Stands (finished w i u v) t
-  stands_finish i u v none j told is =
-      at2 (λ l. StandsAs l told) w.lock i u None j t
-      (λ at. let stood = stands j told is in absurd (none-some stood.0 (sym (ap (λ i. w.lock i t) at.0 ∙ none at.1) ∙ stood.1)))
-      (λ _. stands j told is)
+  stands_finish i u v none j told is = search arith
 
   stands_lose : (keep : ℕ → ℕ → Bool) → ((j : ℕ) (h : Hold) → w.lock j t ≡ Some h → keep j t ≡ true) → Stands (lost w keep) t
   stands_lose keep so j told is = let stood = stands j told is in (stood.0, ap (λ b. kept b (w.lock j t)) (so j stood.0 stood.1) ∙ stood.1, stood.2)
 
 or_kept : (a b c : Bool) → (a ≡ true → b ≡ true → c ≡ true) → (not (a && b) || c) ≡ true
-or_kept true true c so = so refl refl
-or_kept true false c so = refl
-or_kept false b c so = refl
+or_kept a b c h3 = search arith
 
 or_there : (a c : Bool) → (a ≡ true → c ≡ true) → (not a || c) ≡ true
-or_there true c so = so refl
-or_there false c so = refl
+or_there a c h2 = search arith
 
 -- what is taken from a server that has this of the suite
 module _ (z t i : ℕ) (w : World) (st : State) (shows : ShowsAt z st w i) (stands : Stands w t) where
   finish_stands : (u : ℕ) (v : replied.Verdict) (verdict : Verdict) → takes t st (request.Finish u v) ≡ false → Stands (finished w i u verdict) t
-  finish_stands u v verdict calm = stands_finish w t stands i u verdict (λ same.
-      shows.lock t ∙ ap hold_of (none_any (λ (lock : Lock). lock.t == t) (is_own t z) st.locks (own_t t z) (both_false (u == t) (list_any (λ (lock : Lock). lock.t == t) st.locks) calm (ap (λ u. u == t) (sym same) ∙ eq-eqb t t refl))))
+  finish_stands u v verdict calm = search (stands_finish, none_any, own_t, both_false, eq-eqb, arith)
 
   break_stands : (u : ℕ) → takes t st (request.Break u z) ≡ false → Stands (lost w (left_by_break w i u)) t
-  break_stands u calm = stands_lose w t stands (left_by_break w i u) (λ j h is. or_kept (j == i) (t == u) (is_prepared (w.lock j t)) (λ here same.
-      let at : j ≡ i = eqb-true j i here in
-      let lock : w.lock j t ≡ hold_of (lock_at t z st.locks) = ap (λ i. w.lock i t) at ∙ shows.lock t in
-      ap is_prepared lock
-      ∙ found_prepared t z (λ (lock : Lock). is_own t z lock && not lock.prepared) st.locks (λ lock own unprepared. and_from (is_own t z lock) (not lock.prepared) own (ap not unprepared))
-      (both_false (u == t) (list_any (λ (lock : Lock). is_own t z lock && not lock.prepared) st.locks) calm (ap (λ u. u == t) (sym (eqb-true t u same)) ∙ eq-eqb t t refl)) h (sym lock ∙ is)))
+  break_stands u calm = search (stands_lose, or_kept, eqb-true, found_prepared, and_from, both_false, eq-eqb, arith)
 
   crash_stands : drops t st request.Crash ≡ false → Stands (lost w (left_by_crash w i)) t
-  crash_stands calm = stands_lose w t stands (left_by_crash w i) (λ j h is. or_there (j == i) (is_prepared (w.lock j t)) (λ here.
-      let at : j ≡ i = eqb-true j i here in
-      let lock : w.lock j t ≡ hold_of (lock_at t z st.locks) = ap (λ i. w.lock i t) at ∙ shows.lock t in
-      ap is_prepared lock
-      ∙ found_prepared t z (λ (lock : Lock). (lock.t == t) && not lock.prepared) st.locks (λ lock own unprepared. and_from (lock.t == t) (not lock.prepared) (own_t t z lock own) (ap not unprepared)) calm h (sym lock ∙ is)))
+  crash_stands calm = search (stands_lose, or_there, eqb-true, found_prepared, and_from, own_t, arith)
 
   -- a reply to a request that takes nothing
   module _ (start : Beginning) (home : ℕ → ℕ) (decision : machine.Event) (spares : Spares decision) where
@@ -106,34 +85,18 @@ module _ (z t i : ℕ) (w : World) (st : State) (shows : ShowsAt z st w i) (stan
     moves_stand request.Locks said calm = plain request.Locks said (spare_moves z home decision spares i w request.Locks said refl)
     moves_stand request.Return said calm = plain request.Return said (spare_moves z home decision spares i w request.Return said refl)
     moves_stand (request.Finish u v) reply.Done calm = finish_stands u v (ended_as v) (calm refl).0
-    moves_stand (request.Break u suite) reply.Done calm = of (z == suite) refl
-      where
-        of : (b : Bool) → (z == suite) ≡ b → Stands (run start w (cond b (machine.Lose (left_by_break w i u) ∷ []) [])) t
-        of true same = break_stands u (ap (λ suite. takes t st (request.Break u suite)) (eqb-true z suite same) ∙ (calm refl).0)
-        of false other = stands
+    moves_stand (request.Break u suite) reply.Done calm = search (break_stands, eqb-true, arith)
     moves_stand request.Crash reply.Done calm = crash_stands (calm refl).1
     moves_stand another other calm = stands
 
 -- ---- in a world
-
-down_not_done : (asked : Request) → (asked ≡ request.Return → ⊥) → reply_down asked ≡ reply.Done → ⊥
-down_not_done request.Return other is = other refl
-down_not_done another other is = cc
 
 -- nothing is taken by what a server is asked that is up
 abbrev pub Untaken : ℕ → State → Request → Type 0
 Untaken t st asked = st.up ≡ true → (takes t st asked ≡ false) × (drops t st asked ≡ false)
 
 untaken_done : (t : ℕ) (st : State) (asked : Request) → Untaken t st asked → reply_of st asked ≡ reply.Done → (takes t st asked ≡ false) × (drops t st asked ≡ false)
-untaken_done t st asked untaken = of st.up refl asked untaken
-  where
-    of : (b : Bool) → st.up ≡ b → (asked : Request) → Untaken t st asked → cond b (reply_up st asked) (reply_down asked) ≡ reply.Done → (takes t st asked ≡ false) × (drops t st asked ≡ false)
-    of true up asked untaken is = untaken up
-    of false down (request.Resolve u) untaken is = absurd (down_not_done (request.Resolve u) (λ same. cc) is)
-    of false down (request.Finish u v) untaken is = absurd (down_not_done (request.Finish u v) (λ same. cc) is)
-    of false down (request.Break u suite) untaken is = absurd (down_not_done (request.Break u suite) (λ same. cc) is)
-    of false down request.Crash untaken is = absurd (down_not_done request.Crash (λ same. cc) is)
-    of false down other untaken is = (refl, refl)
+untaken_done t st asked untaken = search arith
 
 -- In an event what is served takes nothing of a transaction.
 abbrev pub TakesNothing : Opening → ℕ → worlds.World → Event → Type 0
@@ -150,16 +113,10 @@ module _ (given : Opening) (z t : ℕ) (w : World) (world : worlds.World) (shows
   spared events all = stands_all (beginning z given) w events t all stands
 
   begin_stands : (job : Job) (found : Option Actor) → Later (begin_events given z job found)
-  begin_stands job None = stands
-  begin_stands job (Some actor) = spared (begin_events given z job (Some actor)) (spare_begun z actor.agent.doing (begin (fixed_of given) actor.agent job).doing)
+  begin_stands job found = search arith
 
   lack_stands : (why : Why) (found : Option Actor) → Later (lack_events given z (Lacked why) found)
-  lack_stands why None = stands
-  lack_stands why (Some actor) = of (next_of (fixed_of given) actor.agent)
-    where
-      of : (asked : Option (ℕ × Request)) → Later (lacks_for_events given z actor (Lacked why) asked)
-      of None = stands
-      of (Some asked) = spared (lacks_for_events given z actor (Lacked why) (Some asked)) (spare_own z actor.agent.doing (take (fixed_of given) actor.agent (Lacked why)))
+  lack_stands why found = grind (spared, spare_own, arith)
 
   -- the operator asks
   operator_stands : (server : ℕ) (asked : Request) (found : Option State) → server_at world server ≡ found

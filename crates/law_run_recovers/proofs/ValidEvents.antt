@@ -1,5 +1,5 @@
 -- Events that give no votes of their own give valid ones.
-use Rattle.law_run_recovers.proofs.Vocabulary.{◌≡◌, Bool, true, false, List, [], ◌∷◌, Some, None, AllByRecursion, list_all, false≢true, and_parts, Op, Transaction, Event, Begin, GivesValidVotes, EventGivesValidVotes}
+use Rattle.law_run_recovers.proofs.Vocabulary.{◌≡◌, Bool, true, false, List, [], ◌∷◌, Some, None, AllByRecursion, list_all, and_parts, Op, Transaction, Event, Begin, GivesValidVotes, EventGivesValidVotes, arith}
 use Rattle.file_ops.specs.declared.operation.Action.{Action}
 use Rattle.file_ops.specs.declared.operation.Action.TheVariants as action
 
@@ -10,10 +10,7 @@ sets_none (action.SetVotes votes) = false
 sets_none _ = true
 
 valid_action : (one : Action) → sets_none one ≡ true → GivesValidVotes one
-valid_action (action.Make kind init None) is = tt
-valid_action (action.Make kind init (Some votes)) is = absurd (false≢true is)
-valid_action (action.SetVotes votes) is = absurd (false≢true is)
-valid_action _ is = tt
+valid_action one h1 = search arith
 
 pub all_by : {X : Type 0} (P : X → Type 0) (p : X → Bool) → ((x : X) → p x ≡ true → P x) → (xs : List X) → list_all p xs ≡ true → AllByRecursion P xs
 all_by P p each [] is = tt
@@ -24,5 +21,4 @@ event_sets_none (Begin number (Transaction caller site ops)) = list_all (λ (op 
 event_sets_none _ = true
 
 pub valid_event : (event : Event) → event_sets_none event ≡ true → EventGivesValidVotes event
-valid_event (Begin number (Transaction caller site ops)) is = all_by (λ (op : Op). GivesValidVotes op.action) (λ op. sets_none op.action) (λ op. valid_action op.action) ops is
-valid_event other is = tt
+valid_event event h1 = search (all_by, valid_action, arith)

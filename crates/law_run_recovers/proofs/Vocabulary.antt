@@ -1,24 +1,23 @@
 -- The names that the proofs of this crate take from elsewhere, each with one meaning here.
-pub use Rattle.std.proofs.Common.{All, Bool, Contains, Equal, Err, Greater, IsTrue, Less, List, None, Ok, Option, Result, Some, [], ap, append-nil, append_assoc, arith, cond, false, filter, find, inl, inr, is_some, le_trans, length, lit<}
-pub use Rattle.std.proofs.Common.{map, max, nat_le, nat_lt, not, option_map, refl, slice_get, slice_set, subst, suc, sym, true, zero, ℕ, ⊎_elim, ◌%◌, ◌&&◌, ◌*◌, ◌++◌, ◌+◌, ◌-◌, ◌/◌, ◌<◌, ◌==◌, ◌||◌, ◌∙◌, ◌∷◌, ◌≡◌, ◌≢◌, ◌≤◌, ◌⊎◌}
+pub use Rattle.std.proofs.Common.{All, Bool, Contains, Err, IsTrue, List, None, Ok, Option, Result, Some, [], ap, append-nil, append_assoc, arith, cond, false, filter, find, inl, inr, is_some, le_trans, length, lit<, map, max, nat_le, nat_lt, not}
+pub use Rattle.std.proofs.Common.{option_map, refl, slice_get, slice_set, subst, suc, sym, true, zero, ℕ, ⊎_elim, ◌%◌, ◌&&◌, ◌*◌, ◌++◌, ◌+◌, ◌-◌, ◌/◌, ◌<◌, ◌==◌, ◌||◌, ◌∙◌, ◌∷◌, ◌≡◌, ◌≢◌, ◌≤◌, ◌⊎◌}
 pub use Rattle.std.proofs.Math.Nat.{add-mod_right, mod-lt}
 pub use Rattle.std.proofs.lemmas.Bool.{and_from, and_parts, and_right, cases_Bool, eq-eqb, eqb-true, false_from_ne_true, false≢true, le-leb, leb-true, ltb-false, ltb-true, not-false, not-true, or_cases, or_left, or_parts, or_right}
 pub use Rattle.std.proofs.lemmas.Bool.Decides.{nat_tests}
 pub use Rattle.std.proofs.lemmas.Cmp.{eq_by_cmp_equiv, nat_cmp_total}
-pub use Rattle.std.proofs.lemmas.List.Elements.{All-contains, All-from_recursion}
+pub use Rattle.std.proofs.lemmas.List.Elements.{All-from_recursion}
 pub use Rattle.std.proofs.lemmas.List.Folds.{list_all-append, list_any-append}
 pub use Rattle.std.proofs.lemmas.Option.{none-some, same_Some, slice_get_cases, slice_get_within}
 pub use Rattle.std.specs.List.{AllByRecursion, cons_option, list_all, list_any}
-pub use Rattle.std.specs.Ordering.{is_eq, match_ordering, nat_cmp}
+pub use Rattle.std.specs.Ordering.{is_eq, nat_cmp}
 pub use Rattle.std.specs.Prelude.{unwrap_or}
-pub use Rattle.std.specs.declared.cmp.Ordering.{Ordering}
 pub use Rattle.acl_core.specs.Identity.{Identity}
 pub use Rattle.file_exec.proofs.OnTable.{on_transaction}
 pub use Rattle.file_exec.proofs.Unset.{changes_are_held}
 pub use Rattle.file_exec.specs.Changes.{changes_at, makes, sets_acl, sets_votes, some, with_change}
 pub use Rattle.file_exec.specs.Courses.{Course, Give, Look, Read, Refuse, Set}
-pub use Rattle.file_exec.specs.Following.{Edits, Ended, changed, content_in, content_read, emptied, ending, head, is_set, looked, needs, seen, unless_set}
-pub use Rattle.file_exec.specs.Known.{AgreesWith, Done, Heard, IsSoAt, Known, exec_of, first_unmet, heard, is_held, is_opened, on_table}
+pub use Rattle.file_exec.specs.Following.{Edits, Ended, changed, content_in, content_read, ending, head, is_set, looked, needs, seen, unless_set}
+pub use Rattle.file_exec.specs.Known.{AgreesWith, Done, Heard, IsSoAt, Known, exec_of, first_unmet, heard, is_held}
 pub use Rattle.file_exec.specs.KnownSuites.{KnownSuite}
 pub use Rattle.file_exec.specs.Operations.{transaction}
 pub use Rattle.file_exec.specs.declared.changes.Change.{Change}
@@ -27,7 +26,7 @@ pub use Rattle.file_exec.specs.declared.executor.Outcome.{Outcome}
 pub use Rattle.file_exec.specs.declared.need.Need.{Need}
 pub use Rattle.file_exec.specs.declared.need.Need.TheVariants.{Hold, Know}
 pub use Rattle.file_ops.specs.Rows.{PlainTable, Row, Rows, row_of}
-pub use Rattle.file_ops.specs.Transactions.{Played, replies, table_after}
+pub use Rattle.file_ops.specs.Transactions.{Played, table_after}
 pub use Rattle.file_ops.specs.declared.answer.Answer.{Answer}
 pub use Rattle.file_ops.specs.declared.audit.AuditItem.{AuditItem}
 pub use Rattle.file_ops.specs.declared.operation.Op.{Op}
@@ -45,7 +44,7 @@ pub use Rattle.law_headline.specs.Premises.{AllGiveValidVotes, CanBe, EventGives
 pub use Rattle.law_headline.specs.Worked.{with_caches}
 pub use Rattle.law_one_table.proofs.Logs.{LogIs, decision_at, decision_of_actor, event_log, no_task}
 pub use Rattle.law_one_table.proofs.Running.{all_shown, earlier, machine_one}
-pub use Rattle.law_one_table.specs.Effects.{answered_in, copy_at}
+pub use Rattle.law_one_table.specs.Effects.{copy_at}
 pub use Rattle.law_one_table.specs.Tables.{AllKeepSides, register, row_shown}
 pub use Rattle.law_one_table.specs.Versions.{row_at}
 pub use Rattle.law_run_alone.proofs.Clear.{at_has, clear_servers, none_own, nothing_is_in_the_way}
@@ -55,7 +54,7 @@ pub use Rattle.law_run_alone.proofs.Own.{IsOwnAt, is_crash, nothing_in_the_way, 
 pub use Rattle.law_run_alone.proofs.Owns.{IsCalm, IsMine, names_mine}
 pub use Rattle.law_run_alone.proofs.Reached.{can_front, run_more, valid_back}
 pub use Rattle.law_run_alone.proofs.Requests.{Finds, HasSome, finds, stands_where}
-pub use Rattle.law_run_alone.proofs.Standing.{AllSpare, Spares, Stands, StandsAs, releases, spare_begun, spare_decision, spare_moves, spare_own, stands_all}
+pub use Rattle.law_run_alone.proofs.Standing.{AllSpare, Spares, Stands, releases, spare_decision, spare_moves, spare_own, stands_all}
 pub use Rattle.law_run_alone.proofs.Turns.{all_none, doing_at, doing_of, none_of, with_job}
 pub use Rattle.law_run_alone.proofs.Unhindered.{all_consistent, up_valid}
 pub use Rattle.law_run_alone.proofs.Unswept.{is_resolve, never_resolves}
@@ -66,15 +65,14 @@ pub use Rattle.law_run_alone.proofs.Whole.{Carried, carried_by}
 pub use Rattle.law_run_alone.specs.Alone.{all_idle, begins_job}
 pub use Rattle.law_run_alone.specs.Undisturbed.{all_up, is_decided, no_locks}
 pub use Rattle.law_run_machine.proofs.Joining.{run-append}
-pub use Rattle.law_run_machine.specs.Deciding.{aim_of, aims, aims_once, begun_events, decides_first, decides_on, decision_by, decision_in, decision_with, fixed_in, gives_up, is_at_an_end, is_finishing, known_by, own_events, showed}
-pub use Rattle.law_run_machine.specs.Deciding.{showed_to, tells_aborted, to_write}
-pub use Rattle.law_run_machine.specs.Machines.{answered_events, asked_at_events, asked_events, begin_events, history_from, history_of, home_in, lack_events, lacks_for_events, machine_of, servers_of}
+pub use Rattle.law_run_machine.specs.Deciding.{decides_first, decides_on, decision_by, decision_in, decision_with, known_by, own_events, showed, showed_to, to_write}
+pub use Rattle.law_run_machine.specs.Machines.{begin_events, history_from, history_of, home_in, lack_events, lacks_for_events, machine_of, servers_of}
 pub use Rattle.law_run_machine.specs.Owed.{AreOwed, Owed, Owes, OwesFirst, OwesKnown, OwesWritten}
 pub use Rattle.law_runs.proofs.Agents.{EndStands, IsAt, Runs, same_place, take_keeps}
 pub use Rattle.law_runs.proofs.Answering.{answers_follow_knowledge}
-pub use Rattle.law_runs.proofs.Asking.{decides, sweep_decides_none}
+pub use Rattle.law_runs.proofs.Asking.{decides}
 pub use Rattle.law_runs.proofs.Begun.{Rises, agents_ask_for_themselves, counts_rise, each_is_begun_once}
-pub use Rattle.law_runs.proofs.Conclusions.{holds_of, rest_of}
+pub use Rattle.law_runs.proofs.Conclusions.{holds_of}
 pub use Rattle.law_runs.proofs.Finishes.{finish_is_after, finished_before, finished_changes_are_met}
 pub use Rattle.law_runs.proofs.Lengths.{so_many}
 pub use Rattle.law_runs.proofs.Places.{at_puts, same_or}
@@ -93,7 +91,7 @@ pub use Rattle.law_server_moves.specs.Laws.{beginning}
 pub use Rattle.law_server_moves.specs.Views.{Shows, ShowsAt, ended_as, hold_of, plan_of}
 pub use Rattle.law_suite_machine.proofs.Invariant.{Inv}
 pub use Rattle.law_suite_machine.specs.Machine.{Aborted, Answered, IsQuorum, begun, effect, in_effect}
-pub use Rattle.law_suite_machine.specs.Registers.{Beginning, IsKnown, WasPrefix, content_at, empty_of, prefix_at, row}
+pub use Rattle.law_suite_machine.specs.Registers.{Beginning, IsKnown, WasPrefix, content_at, prefix_at, row}
 pub use Rattle.rep_core.proofs.Finding.{find_some}
 pub use Rattle.rep_core.proofs.Members.{Has, all_at, any_has, between_has, contains_from, filter_has, find_none, has_any, has_between, has_filter, has_from, has_map, map_has}
 pub use Rattle.rep_core.proofs.Stays.{serves_itself}
@@ -101,8 +99,8 @@ pub use Rattle.rep_core.proofs.Ways.{Ways, by_request, by_step, room}
 pub use Rattle.rep_core.specs.Consistency.{HasPreparedLock, IsConsistent}
 pub use Rattle.rep_core.specs.Fits.{is_busy, is_down, is_lost, is_prepared}
 pub use Rattle.rep_core.specs.Intentions.{Intention}
-pub use Rattle.rep_core.specs.Locks.{before, conflicts, has_lock, has_prepared, in_the_way, is_own, lock_at, prepared_lock, raised, raised_lock, released, rise, with_lock, with_prepared}
-pub use Rattle.rep_core.specs.Service.{after_down, after_locking, after_record, after_up, can_prepare, given, held, is_answered, locking_reply, poll_reply, prepares, recorded, reply_down, reply_of, reply_up, stands_prepared, verdict_of}
+pub use Rattle.rep_core.specs.Locks.{before, conflicts, has_lock, has_prepared, in_the_way, is_own, lock_at, prepared_lock, raised, raised_lock, rise, with_lock}
+pub use Rattle.rep_core.specs.Service.{after_down, after_locking, after_record, after_up, can_prepare, given, held, is_answered, locking_reply, prepares, recorded, reply_down, reply_of, reply_up, stands_prepared, verdict_of}
 pub use Rattle.rep_core.specs.Serving.{answer_of, is_full, served}
 pub use Rattle.rep_core.specs.State.{State, record_of}
 pub use Rattle.rep_core.specs.Store.{copy_of, finished, intended, left_by}
@@ -116,16 +114,16 @@ pub use Rattle.run_core.proofs.Appending.{decisions_from-append, dones-append, o
 pub use Rattle.run_core.specs.Decisions.{Decided, answer_in, decided, decided_as, decided_at, decided_by, decisions, decisions_from, task_at, task_in, task_of, to_decide}
 pub use Rattle.run_core.specs.Runs.{after, done_in, dones, outcomes, run}
 pub use Rattle.run_core.specs.TableOfRun.{played_on, table_after_all, table_of, table_with}
-pub use Rattle.run_core.specs.Worlds.{Actor, Stepped, World, actor_at, after_serving, answered, asks, asks_at, becomes, has_no_job, lacks, lacks_for, moved, one_more, opening, operated, operates, outcome_of, quiet, serve, server_at}
-pub use Rattle.run_core.specs.Worlds.{servers_from, step, steps_once, took, with_actor}
+pub use Rattle.run_core.specs.Worlds.{Actor, Stepped, World, actor_at, after_serving, answered, asks, asks_at, becomes, has_no_job, lacks, lacks_for, moved, one_more, opening, operated, operates, outcome_of, quiet, serve, server_at, servers_from}
+pub use Rattle.run_core.specs.Worlds.{step, steps_once, took, with_actor}
 pub use Rattle.run_core.specs.declared.done.EndedJob.{EndedJob}
 pub use Rattle.run_core.specs.declared.done.Served.{Served}
 pub use Rattle.run_core.specs.declared.event.Event.{Event}
 pub use Rattle.run_core.specs.declared.event.Event.TheVariants.{Begin, Crash, Forget, Lack, Return, Step}
 pub use Rattle.sorted_map.specs.Laws.{IsOrdered-insert, get-insert}
 pub use Rattle.sorted_map.specs.SortedMap.{IsOrdered, get, insert}
-pub use Rattle.suite_collect.specs.Collecting.{Ask, Asked, Collector, Current, Next, Poll, Short, Upgrade, Widening, all_told, ask_or_short, collect, counted, first_members, got, is_left, is_member, members_of, mode_asked, mode_of, needed}
-pub use Rattle.suite_collect.specs.Collecting.{needed_of, next, raise, request_for, said_to, tell, tell_at, told_by, told_since, version, votes_or, wanted, widen}
+pub use Rattle.suite_collect.specs.Collecting.{Ask, Asked, Collector, Current, Next, Poll, Short, Upgrade, Widening, all_told, ask_or_short, collect, counted, first_members, got, is_left, is_member, members_of, mode_asked, mode_of, needed, needed_of}
+pub use Rattle.suite_collect.specs.Collecting.{next, raise, request_for, said_to, tell, tell_at, told_by, told_since, version, votes_or, wanted, widen}
 pub use Rattle.suite_collect.specs.Telling.{has_refused, holds, newer, newest}
 pub use Rattle.suite_collect.specs.declared.told.Said.{Said}
 pub use Rattle.suite_collect.specs.declared.told.Told.{Told}
@@ -144,20 +142,20 @@ pub use Rattle.txn_core.proofs.Locks.{Keeps, begin_keeps, nothing_held, plus_all
 pub use Rattle.txn_core.proofs.ToldLists.{are_nil}
 pub use Rattle.txn_core.proofs.Upheld.{after-append, exchanges-forget, exchanges-take}
 pub use Rattle.txn_core.specs.Agents.{Agent, Take, Taken, after_all, begin, begins, end_of, fixed_of, forget, has_sense, is_idle, left, max_jobs, next_in, next_of, started, take, take_in, with_step}
-pub use Rattle.txn_core.specs.Doing.{After, Breaking, Changes, Deciding, Doing, Ends, Fetching, Finishing, Fixed, Gathering, GoesOn, Granted, Listing, Phase, Preparing, Proposal, Resolving, Running, RunningSweep, SweepRun, Sweeping, Task}
-pub use Rattle.txn_core.specs.Doing.{Telling, TransactionRun, home_of}
+pub use Rattle.txn_core.specs.Doing.{After, Breaking, Changes, Deciding, Doing, Ends, Fetching, Finishing, Fixed, Gathering, GoesOn, Granted, Listing, Phase, Preparing, Proposal, Resolving, Running, RunningSweep, SweepRun, Sweeping, Task, Telling}
+pub use Rattle.txn_core.specs.Doing.{TransactionRun, home_of}
 pub use Rattle.txn_core.specs.Laws.{Exchange, IsReady, among, asks_only, exchange_of, exchanges, has_said, heard_in, holding, is_decide, is_said, locks, names_of, names_only, newest_of, of_job, refusing, said_by, says_held, was_held}
 pub use Rattle.txn_core.specs.Runs.{a, other, owner}
 pub use Rattle.txn_core.specs.Suites.{GatheredSuite, ReadPoint, Suites, first_or, has_locks, holds_lock, known_of, known_row, settled, source_of, suite_of, with_suite}
 pub use Rattle.txn_core.specs.Sweeps.{after_answer, asked_now, others, rising, sweep_on}
-pub use Rattle.txn_core.specs.Transactions.{after_lack, after_reply, after_response, asked_for, changes_of, decision_of, execute, fetched_at, fetched_for, gather_by, given_in, locked_at, numbers_from, prepare, request_in, short_cause}
-pub use Rattle.txn_core.specs.Transactions.{tell_end, votes_after, votes_then, widen_all, widen_by, widen_one, widened}
+pub use Rattle.txn_core.specs.Transactions.{after_lack, after_reply, after_response, asked_for, changes_of, decision_of, execute, fetched_for, gather_by, given_in, locked_at, numbers_from, prepare, request_in, short_cause, tell_end, votes_after}
+pub use Rattle.txn_core.specs.Transactions.{votes_then, widen_all, widen_by, widen_one, widened}
 pub use Rattle.txn_core.specs.Undecided.{is_finish, stands_on_locks}
 pub use Rattle.txn_core.specs.Writing.{change_of, has_vote, parts_at}
 pub use Rattle.txn_core.specs.declared.ending.Cause.{Cause}
-pub use Rattle.txn_core.specs.declared.ending.Cause.TheVariants.{HomeDown, Lost, Unavailable}
+pub use Rattle.txn_core.specs.declared.ending.Cause.TheVariants.{Lost, Unavailable}
 pub use Rattle.txn_core.specs.declared.ending.Ending.{Ending}
-pub use Rattle.txn_core.specs.declared.ending.Ending.TheVariants.{Refused, Swept, Undecided}
+pub use Rattle.txn_core.specs.declared.ending.Ending.TheVariants.{Swept, Undecided}
 pub use Rattle.txn_core.specs.declared.job.Job.{Job}
 pub use Rattle.txn_core.specs.declared.job.Job.TheVariants.{Sweep, Transaction}
 pub use Rattle.txn_core.specs.declared.response.Response.{Response}
@@ -167,7 +165,7 @@ pub use Rattle.vote_core.proofs.QuorumLemmas.{votes_in-wider}
 pub use Rattle.vote_core.specs.Quorums.{Configuration, Representative, is_write_quorum, total_votes, votes_at, votes_in}
 pub use Rattle.vote_core.specs.Validity.{IsValid, max_servers}
 pub use Rattle.weak_cache.proofs.Origins.{forgotten_has, search_keeps_all}
-pub use Rattle.weak_cache.specs.Cache.{Limits, has_room, hint, put, searched, within_budget, within_quota}
+pub use Rattle.weak_cache.specs.Cache.{Limits, hint, put, searched, within_budget, within_quota}
 pub use Rattle.weak_cache.specs.Entries.{Cache, Entry, entry_of, forgotten, is_at, is_of, size_of, without}
 pub use Rattle.law_run_recovers.specs.Alone.{hinders, its_step, own_steps, unhindered_from}
 pub use Rattle.law_run_recovers.specs.Among.{AmongLocksAreToldAsBegun, AmongLocksEndByVotesAt, AmongLocksLeaveNoLockAt, GoesAmongLocks, StandsStill, UnmetAreAmongLocks}
@@ -177,13 +175,11 @@ pub use Rattle.law_run_recovers.specs.BesideWorked.{SomeRunsGoSideBySide, first_
 pub use Rattle.law_run_recovers.specs.Blocking.{BlockedByDoubtsAt, DoubtedAt, IsBlocker, OneCrashBlocksAt, SomeServerBlocksAt, SweepsAll, WasItsHome, blocks, can_have}
 pub use Rattle.law_run_recovers.specs.Clashing.{AreTight, Begun, HasFirstVotes, SetsApart, clashes, first_clash, only_reads, votes_now}
 pub use Rattle.law_run_recovers.specs.Contending.{NoneOfThree, NoneOfTwoCrossed, NoneOfTwoOfWhichOneRaises, NoneOfTwoThatRaise, NoneOfTwoThatSetVotes, NoneOfTwoThatWriteAll, SomeRunsStarve, at_the_last, b, both_made, one_server, puts}
-pub use Rattle.law_run_recovers.specs.Demands.{Demand, MayStart, MayStartAll, all_met, change_in, changes_on, demand_by, has_asked, is_met, led_on, led_so_far_by, led_to_by, locks_asked, newer_by, not_asked, shows_newer_by, votes_of_row}
-pub use Rattle.law_run_recovers.specs.Demands.{votes_set}
+pub use Rattle.law_run_recovers.specs.Demands.{Demand, MayStart, MayStartAll, all_met, change_in, changes_on, demand_by, has_asked, is_met, led_on, led_so_far_by, led_to_by, locks_asked, newer_by, not_asked, shows_newer_by, votes_of_row, votes_set}
 pub use Rattle.law_run_recovers.specs.Ends.{Always, AreAnsweredAsBegun, EndInTime, EndsByOpenVotes, EndsOpenly, EndsThen, HadVotesOpen, WasDecidedThen, answer_on, ending_by, ending_of, few_steps, first_wanting, has_votes_open}
 pub use Rattle.law_run_recovers.specs.Further.{AreDecidedWhereOpen, GatherTheirAsks, GathersItsAsks, VotesNeverMovedOf, is_gathered}
-pub use Rattle.law_run_recovers.specs.Going.{begun_world, hinders_itself, is_running, is_telling, is_told, of_up, robs, running_in, runs, takes, telling_in, tells, up_and, world_after}
-pub use Rattle.law_run_recovers.specs.Laws.{DecidedHadVotesUpAt, DecidedWhereVotesAreAt, EndsAreByVotesAt, EndsByVotes, EndsInTimeAt, GoesAlone, HadVotesUp, HomesGoRound, MetDemandsAreRows, OneIsDecided, OneOfThemIsDecidedAt, again}
-pub use Rattle.law_run_recovers.specs.Laws.{goes_again}
+pub use Rattle.law_run_recovers.specs.Going.{begun_world, hinders_itself, is_running, is_telling, is_told, of_up, robs, running_in, runs, takes, up_and, world_after}
+pub use Rattle.law_run_recovers.specs.Laws.{DecidedHadVotesUpAt, DecidedWhereVotesAreAt, EndsAreByVotesAt, EndsByVotes, EndsInTimeAt, GoesAlone, HadVotesUp, HomesGoRound, MetDemandsAreRows, OneIsDecided, OneOfThemIsDecidedAt, again, goes_again}
 pub use Rattle.law_run_recovers.specs.Local.{NearVotesAreRows, OpenVotesAreRows, UnmetAreDecidedWhereVotesAreAt, UnmetEndByVotesAt, UnmetHadVotesUpAt}
 pub use Rattle.law_run_recovers.specs.Meets.{OneThatMeetsIsDecidedAt, TheyMeet, its_votes}
 pub use Rattle.law_run_recovers.specs.MeetsBeside.{AllOthers, IsServed, OneThatMeetsBesideIsDecidedAt, ReaderMeetsBeside, ReadsToo, TheyMeetBeside, WriterOrReaderBesideIsDecidedAt, first_asks, first_sets, meets_some, sweeps_now, upsets}

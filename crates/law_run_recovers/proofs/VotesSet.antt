@@ -1,7 +1,7 @@
 -- The votes that a transaction sets by what it knows are those that it sets on the table.
-use Rattle.law_run_recovers.proofs.Vocabulary.{◌≡◌, inl, inr, ℕ, Bool, true, false, cond, List, [], ◌∷◌, Option, Some, None, Ok, Greater, refl, sym, ap, ◌∙◌, map, filter, option_map, nat_cmp, match_ordering, Ordering, nat_cmp_total}
-use Rattle.law_run_recovers.proofs.Vocabulary.{eq_by_cmp_equiv, none-some, same_Some, IsOrdered, insert, IsOrdered-insert, Identity, Configuration, Exclusive, Has, has_filter, has_map, contains_from, all_at, Answer, Op, Service, Row, Rows}
-use Rattle.law_run_recovers.proofs.Vocabulary.{row_of, Change, Edit, some, makes, sets_acl, sets_votes, with_change, changes_at, Edits, Ended, seen, is_set, emptied, head, Changes, change_of, change_in, changes_on}
+use Rattle.law_run_recovers.proofs.Vocabulary.{◌≡◌, inl, inr, ℕ, Bool, true, List, [], ◌∷◌, Option, Some, None, Ok, refl, sym, ap, ◌∙◌, map, filter, option_map, nat_cmp, nat_cmp_total, arith, eq_by_cmp_equiv, none-some, same_Some, IsOrdered, insert}
+use Rattle.law_run_recovers.proofs.Vocabulary.{IsOrdered-insert, Identity, Configuration, Exclusive, Has, has_filter, has_map, contains_from, all_at, Answer, Op, Service, Row, Rows, row_of, Change, Edit, some, makes, sets_acl, sets_votes}
+use Rattle.law_run_recovers.proofs.Vocabulary.{with_change, changes_at, Edits, Ended, seen, is_set, head, Changes, change_of, change_in, changes_on}
 use Rattle.std.proofs.lemmas.Map.Keys.{IsDistinct-from_sorted}
 use Rattle.std.proofs.lemmas.Map.Views.{lookup-from_Contains}
 use Rattle.file_exec.proofs.Alike.{held_head, head_seen}
@@ -18,13 +18,7 @@ module _ {V W : Type 0} (see : V → W) where
 
   seen_insert : (all : List (ℕ × V)) (key : ℕ) (value : V) → seen_all (insert nat_cmp all key value) ≡ insert nat_cmp (seen_all all) key (see value)
   seen_insert [] key value = refl
-  seen_insert (e ∷ es) key value = of (nat_cmp key e.0) (seen_insert es key value)
-    where
-      of : (o : Ordering) → seen_all (insert nat_cmp es key value) ≡ insert nat_cmp (seen_all es) key (see value)
-          → seen_all (match_ordering o ((key, value) ∷ e ∷ es) ((e.0, value) ∷ es) (e ∷ insert nat_cmp es key value))
-          ≡ match_ordering o ((key, see value) ∷ (e.0, see e.1) ∷ seen_all es) ((e.0, see value) ∷ seen_all es) ((e.0, see e.1) ∷ insert nat_cmp (seen_all es) key (see value))
-      of Greater go = ap (λ rest. (e.0, see e.1) ∷ rest) go
-      of other go = refl
+  seen_insert (e ∷ es) key value = search (seen_insert es key value, arith)
 
 -- ---- of changes: whether votes are set, and the votes after them
 
@@ -32,14 +26,7 @@ abbrev sees : Change → Bool × Configuration
 sees change = (change.votes, change.row.votes)
 
 seen_with : (z : ℕ) (a b : Option Change) → option_map sees a ≡ option_map sees b → (some others : Changes) → seen_all sees some ≡ seen_all sees others → seen_all sees (with_change z a some) ≡ seen_all sees (with_change z b others)
-seen_with z (Some a) (Some b) same some others rest =
-    seen_insert sees some z a
-    ∙ ap (λ all. insert nat_cmp all z (sees a)) rest
-    ∙ ap (insert nat_cmp (seen_all sees others) z) (same_Some (sees a) (sees b) same)
-    ∙ sym (seen_insert sees others z b)
-seen_with z None None same some others rest = rest
-seen_with z (Some a) None same some others rest = absurd (none-some (sees a) (sym same))
-seen_with z None (Some b) same some others rest = absurd (none-some (sees b) same)
+seen_with z a b h3 some others h6 = search (seen_insert, same_Some, none-some, arith)
 
 seen_at : (f g : ℕ → Option Change) (edits : Edits) → ((e : ℕ × Edit) → Has edits e → option_map sees (f e.0) ≡ option_map sees (g e.0)) → seen_all sees (changes_at f edits) ≡ seen_all sees (changes_at g edits)
 seen_at f g [] same = refl
@@ -66,22 +53,14 @@ votes_seen all = map as_seen (filter sets_seen all)
 
 votes_are_seen : (all : Changes) → votes_of all ≡ votes_seen (seen_all sees all)
 votes_are_seen [] = refl
-votes_are_seen (one ∷ all) = of one.1.votes (votes_are_seen all)
-  where
-    of : (b : Bool) → votes_of all ≡ votes_seen (seen_all sees all)
-        → map as_set (cond b (one ∷ filter sets all) (filter sets all)) ≡ map as_seen (cond b ((one.0, sees one.1) ∷ filter sets_seen (seen_all sees all)) (filter sets_seen (seen_all sees all)))
-    of true go = ap (λ rest. as_set one ∷ rest) go
-    of false go = go
+votes_are_seen (one ∷ all) = search (votes_are_seen all, arith)
 
 -- ---- known and on the table
 
 row_votes : (made acl votes content : Bool) (a b : Option Row) → head a ≡ head b
     → option_map sees (option_map (λ (row : Row). record { made = made; acl = acl; votes = votes; content = content; row = row }) a)
     ≡ option_map sees (option_map (λ (row : Row). record { made = made; acl = acl; votes = votes; content = content; row = row }) b)
-row_votes made acl votes content None None same = refl
-row_votes made acl votes content (Some a) (Some b) same = ap (λ (row : Row). Some (votes, row.votes)) (same_Some (emptied a) (emptied b) same)
-row_votes made acl votes content (Some a) None same = absurd (none-some (emptied a) (sym same))
-row_votes made acl votes content None (Some b) same = absurd (none-some (emptied b) same)
+row_votes made acl votes content a b h6 = search arith
 
 -- where the executor is done, what it sets of votes is what the transaction sets on each table that agrees with what is known
 pub same_votes : (service : Service) (known : Known) (rows : Rows) (t : ℕ) (caller : Identity) (ops : List Op) (ended : Ended (List Answer)) → AgreesWith known (row_of rows) → exec_of service known t caller ops ≡ Done (Ok ended)

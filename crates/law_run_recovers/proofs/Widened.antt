@@ -1,27 +1,19 @@
 -- A collector of whatever votes to which servers stand as a sight says: what it hears, and where one that is widened ends.
-use Rattle.law_run_recovers.proofs.Vocabulary.{◌≡◌, ℕ, ◌≤◌, true, false, List, ◌++◌, Option, Some, None, refl, sym, ap, subst, ◌∙◌, arith, nat_le, nat_tests, Configuration, votes_in, votes_in-wider, absent_prefix, Prefix, Exclusive, Reply}
-use Rattle.law_run_recovers.proofs.Vocabulary.{Told, holds, Collector, Asked, Poll, Upgrade, request_for, said_to, all_told, tell, tell_at, told_by, Current, Ask, Short, next, Fixed, World, Widening}
+use Rattle.law_run_recovers.proofs.Vocabulary.{◌≡◌, ℕ, ◌≤◌, true, false, List, ◌++◌, Option, Some, sym, ap, subst, ◌∙◌, arith, nat_le, nat_tests, Configuration, votes_in, votes_in-wider, absent_prefix, Prefix, Exclusive, Reply, Told, holds}
+use Rattle.law_run_recovers.proofs.Vocabulary.{Collector, Asked, request_for, said_to, all_told, tell, told_by, Current, Ask, Short, next, Fixed, World}
 use Rattle.suite_collect.proofs.Fewness.{all_told-tell}
-use Rattle.rep_core.specs.declared.reply.Reply.TheVariants as reply
 use Rattle.txn_core.specs.Transactions as txn_run
 use Rattle.law_run_recovers.proofs.Polled.{Sight, serves_all, Answers, AllRight, right_wider, held_open, Refusing, refusing, told_is, held_are_open, at_current, at_short}
 
 -- ---- what a collector is told
 
 pub start_stays : (c : Collector) (one : Told) → (tell one c).start ≡ c.start
-start_stays c one = of c.widening
-  where
-    of : (widening : Option Widening) → (tell_at widening one c).start ≡ c.start
-    of None = refl
-    of (Some widening) = refl
+start_stays c one = search arith
 
 -- ---- the same in a transaction's words
 
 pub same_said : (t number : ℕ) (asked : Asked) (said : Reply) → txn_run.said_to (request_for t number asked) said ≡ said_to asked said
-same_said t number asked (reply.Held prefix dver) = refl
-same_said t number (Poll mode) reply.Down = refl
-same_said t number Upgrade reply.Down = refl
-same_said t number asked other = refl
+same_said t number asked said = search arith
 
 -- ---- whose servers answer rightly
 

@@ -1,7 +1,7 @@
 -- A transaction that sets votes: one suite after the other is widened to them.
-use Rattle.law_run_recovers.proofs.Vocabulary.{◌≡◌, inl, inr, ⊎_elim, ℕ, Bool, true, false, cond, List, [], ◌∷◌, ◌++◌, Option, Some, None, is_some, Ok, refl, sym, ap, subst, ◌∙◌, ◌==◌, not, map, false≢true, eqb-true, same_Some}
-use Rattle.law_run_recovers.proofs.Vocabulary.{Configuration, Prefix, LockMode, Exclusive, PlainTable, Change, Collector, all_told, told_since, widen, Next, Current, Ask, Short, next, Cache, Undecided, GatheredSuite, Suites, suite_of}
-use Rattle.law_run_recovers.proofs.Vocabulary.{with_suite, Fixed, Task, Granted, short_cause, votes_then, widened, widen_by, widen_one, widen_all, locked_at, self, with_at, each_but, each_with, World, is_met, Has, Widening}
+use Rattle.law_run_recovers.proofs.Vocabulary.{◌≡◌, inl, inr, ⊎_elim, ℕ, Bool, true, false, cond, List, [], ◌∷◌, ◌++◌, Option, Some, None, is_some, Ok, refl, sym, ap, subst, ◌∙◌, ◌==◌, not, map, false≢true, eqb-true, same_Some, arith, Configuration}
+use Rattle.law_run_recovers.proofs.Vocabulary.{Prefix, LockMode, Exclusive, PlainTable, Change, Collector, all_told, told_since, widen, Next, Current, Ask, Short, next, Cache, Undecided, GatheredSuite, Suites, suite_of, with_suite, Fixed, Task}
+use Rattle.law_run_recovers.proofs.Vocabulary.{Granted, short_cause, votes_then, widened, widen_by, widen_one, widen_all, locked_at, self, with_at, each_but, each_with, World, is_met, Has, Widening}
 use Rattle.txn_core.specs.Transactions.{Step}
 use Rattle.rep_core.specs.declared.reply.Verdict.TheVariants as verdict
 use Rattle.txn_core.specs.Doing as doing
@@ -53,16 +53,14 @@ module _ (fixed : Fixed) (world : World) (sight : Sight) (table : PlainTable) (t
   }
     where
       held_so : (z : ℕ) (mode : LockMode) (b : Bool) → (number == z) ≡ b → held_in mode (cond b (Some new) (suite_of suites z)) ≡ held_in mode (suite_of suites z)
-      held_so z mode true is = held mode ∙ ap (λ z. held_in mode (suite_of suites z)) (eqb-true number z is)
-      held_so z mode false is = refl
+      held_so z mode b h3 = search (held_in, eqb-true, arith)
 
       kept_so : (one : ℕ × Configuration) → Has left one → (suite : GatheredSuite) (b : Bool) → cond b (Some new) (suite_of suites one.0) ≡ Some suite → IsKept suite
       kept_so one has suite true is = subst IsKept (same_Some new suite is) kept
       kept_so one has suite false is = s.whole one has suite is
 
       of : (one : ℕ × Configuration) (b : Bool) → is_some (suite_of suites one.0) ≡ true → is_some (cond b (Some new) (suite_of suites one.0)) ≡ true
-      of one true some = refl
-      of one false some = some
+      of one b h2 = search arith
 
   -- one more is met
   pub sets_on : (suites : Suites) (done left : List (ℕ × Configuration)) (one : ℕ × Configuration) (granted : Granted) → Setting suites done (one ∷ left) granted
@@ -88,8 +86,7 @@ module _ (fixed : Fixed) (world : World) (sight : Sight) (table : PlainTable) (t
   all_set suites done granted s = record {
     start = starts fixed world sight table task cache suites;
     from = may_start fixed world sight table task cache suites s.right;
-    none = none_short fixed world sight table task cache (starts fixed world sight table task cache suites) s.so_far done s.all
-        (λ other has. had_met fixed world sight table task cache suites other (s.had other has)) s.sets (λ other has. ap not (s.met other has));
+    none = search (none_short, starts, had_met, arith);
     answer_is = s.answer_is;
     right = s.right;
     gathered = s.modes;

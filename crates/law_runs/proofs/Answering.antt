@@ -1,14 +1,12 @@
 -- A decision is what its transaction comes to on what its agent knows.
-use Rattle.law_runs.proofs.Vocabulary.{◌≡◌, ℕ, ◌+◌, Bool, true, false, cond, List, [], ◌∷◌, Option, Some, None, refl, sym, ap, subst, ◌∙◌, ◌*◌, ◌&&◌, nat_lt, is_some, Result, Ok, Err, none-some, same_Some, Opening, Answer, Refusal, Rows, replies}
-use Rattle.law_runs.proofs.Vocabulary.{Request, Verdict, State, record_of, reply_of, recorded, verdict_of, is_full, answer_of, Ended, done_is_the_tables, Job, Transaction, Sweep, Response, known_of, Fixed, Task, Proposal, TransactionRun, SweepRun}
-use Rattle.law_runs.proofs.Vocabulary.{Doing, Running, RunningSweep, After, GoesOn, Ends, decision_of, is_decide, Agent, next_in, next_of, left, take_in, begin, started, fixed_of, is_idle, has_sense, max_jobs, Event, Begin, Step, Crash, Return}
-use Rattle.law_runs.proofs.Vocabulary.{Forget, Lack, Served, Actor, World, server_at, actor_at, opening, answered, asks_at, asks, steps_once, step, after, run, Decided, to_decide, answer_in, decided_as, decided_at, decided_by, task_of, task_at}
-use Rattle.law_runs.proofs.Vocabulary.{IsAnsweredAsKnown, AnswersFollowKnowledge}
+use Rattle.law_runs.proofs.Vocabulary.{◌≡◌, ℕ, Bool, true, false, cond, List, [], ◌∷◌, Option, Some, None, refl, sym, ap, subst, ◌∙◌, nat_lt, Result, none-some, Opening, Answer, Refusal, Rows, arith, replies, Request, State, reply_of, answer_of}
+use Rattle.law_runs.proofs.Vocabulary.{Ended, done_is_the_tables, Job, Transaction, Sweep, Response, known_of, Fixed, Task, Proposal, TransactionRun, SweepRun, Doing, Running, RunningSweep, After, decision_of, is_decide, Agent, next_in, next_of}
+use Rattle.law_runs.proofs.Vocabulary.{left, take_in, begin, started, fixed_of, Event, Begin, Step, Crash, Return, Forget, Lack, Served, Actor, World, server_at, actor_at, opening, answered, asks_at, asks, steps_once, step, after, run, Decided}
+use Rattle.law_runs.proofs.Vocabulary.{decided_at, decided_by, task_of, task_at, IsAnsweredAsKnown, AnswersFollowKnowledge}
 use Rattle.file_exec.specs.Known.{on_table}
 use Rattle.rep_core.specs.declared.request.Request.TheVariants as request
 use Rattle.rep_core.specs.declared.reply.Reply.TheVariants as reply
 use Rattle.txn_core.specs.Sweeps as sweep
-use Rattle.run_core.specs.Decisions as decisions
 use Rattle.law_runs.proofs.Asking.{decides}
 use Rattle.law_runs.proofs.Turns.{decides_at, no_decide}
 use Rattle.law_runs.proofs.Worlds.{agent_of, agent_at}
@@ -26,12 +24,10 @@ Knows fixed (Some (RunningSweep sweep_run)) = Unit {0}
 Knows fixed None = Unit {0}
 
 pub knows_left : (fixed : Fixed) (after : After TransactionRun) → Left fixed after → Knows fixed (left Running after)
-knows_left fixed (GoesOn txn_run) keeps = keeps
-knows_left fixed (Ends ending) keeps = tt
+knows_left fixed after h2 = search arith
 
 pub knows_round : (fixed : Fixed) (after : After SweepRun) → Knows fixed (left RunningSweep after)
-knows_round fixed (GoesOn sweep_run) = tt
-knows_round fixed (Ends ending) = tt
+knows_round fixed after = search arith
 
 pub take_knows : (fixed : Fixed) (agent : Agent) (response : Response) (doing : Option Doing) (asked : Option (ℕ × Request)) → agent.doing ≡ doing → Knows fixed doing → Knows fixed (take_in fixed agent response doing asked).agent.doing
 take_knows fixed agent response (Some (Running running)) (Some asked) was knows = knows_left fixed _ (left_response fixed running.task agent.cache running.suites running.phase asked.0 asked.1 response knows)
@@ -41,17 +37,11 @@ take_knows fixed agent response (Some (RunningSweep sweep_run)) None was knows =
 take_knows fixed agent response None asked was knows = subst (Knows fixed) (sym was) tt
 
 starts_knowing : (fixed : Fixed) (agent : Agent) (job : Job) → Knows fixed (started fixed agent job).doing
-starts_knowing fixed agent (Transaction caller site ops) =
-    let task : Task = record { t = 64 * agent.count + agent.index; caller = caller; site = site; ops = ops } in
-    knows_left fixed _ (left_execute fixed task (record { suites = []; cache = agent.cache }) none_fit)
+starts_knowing fixed agent (Transaction caller site ops) = search (knows_left, left_execute, none_fit, arith)
 starts_knowing fixed agent (Sweep server) = tt
 
 begin_knows : (fixed : Fixed) (agent : Agent) (job : Job) → Knows fixed agent.doing → Knows fixed (begin fixed agent job).doing
-begin_knows fixed agent job knows =
-    elim (is_idle agent.doing && has_sense fixed job && nat_lt agent.count max_jobs) as (λ b. Knows fixed (cond b (record (started fixed agent job) { count = agent.count + 1 }) agent).doing) [
-      | true ↦ starts_knowing fixed agent job
-      | false ↦ knows
-    ]
+begin_knows fixed agent job knows = search (nat_lt, starts_knowing, arith)
 
 -- ---- all agents of a world
 
@@ -77,53 +67,30 @@ always_knows given events = run_knows (fixed_of given) events (opening given) (�
 -- ---- a decision
 
 pub none_at : (found : Option State) (t : Option ℕ) → decided_at found t None ≡ None
-none_at found None = refl
-none_at None (Some t) = refl
-none_at (Some st) (Some t) = of (is_some (record_of st t))
-  where
-    of : (b : Bool) → ◌≡◌ {A = Option Decided} (cond b None None) None
-    of true = refl
-    of false = refl
+none_at found t = search arith
 
 -- without a transaction nothing is decided
 no_task : (world : World) (what : Option Served) → decided_by world None what ≡ None
-no_task world None = refl
-no_task world (Some what) = none_at (server_at world what.server) (to_decide what.request.value)
+no_task world what = search arith
 
 -- what an outcome makes of a task
 abbrev decided_with : Task → Proposal → Decided
 decided_with task outcome = record { t = task.t; caller = task.caller; ops = task.ops; answer = answer_as outcome }
 
-as_carried : (task : Task) (outcome : Proposal) → decided_as (Some task) (decisions.answer_of (verdict_of (decision_of task outcome))) ≡ Some (decided_with task outcome)
-as_carried task (Ok granted) = refl
-as_carried task (Err refusal) = refl
-
-carried_if : (task : Task) (outcome : Proposal) (one : Decided) (old : Option Verdict) → cond (is_some old) None
-    (decided_as (Some task) (decisions.answer_of (recorded old (verdict_of (decision_of task outcome))))) ≡ Some one → one ≡ decided_with task outcome
-carried_if task outcome one (Some old) is = absurd (none-some one is)
-carried_if task outcome one None is = same_Some one (decided_with task outcome) (sym is ∙ as_carried task outcome)
-
 -- what a Decide decides is what it carries
 carried : (st : State) (task : Task) (outcome : Proposal) (one : Decided) → decides_at st task (request.Decide task.t (decision_of task outcome))
     (reply_of st (request.Decide task.t (decision_of task outcome))) ≡ Some one → one ≡ decided_with task outcome
-carried st task outcome one =
-    elim (st.up) as (λ b. decides_at st task (request.Decide task.t (decision_of task outcome))
-    (cond b (reply.Verdict (recorded (record_of st task.t) (verdict_of (decision_of task outcome)))) reply.Down) ≡ Some one → one ≡ decided_with task outcome) [
-      | true ↦ λ is. carried_if task outcome one (record_of st task.t) is
-      | false ↦ λ is. absurd (none-some one (sym (none_at (Some st) (Some task.t)) ∙ is))
-    ]
+carried st task outcome one = search arith
 
 given_replies : (rows : Rows) (result : Result (Ended (List Answer)) Refusal) → replies (on_table rows result) ≡ given_by result
-given_replies rows (Ok ended) = refl
-given_replies rows (Err refusal) = refl
+given_replies rows result = search arith
 
 -- ---- a step that decides
 
 module _ (given : Opening) (world : World) (all : AllKnow (fixed_of given) (agent_at world)) (number : ℕ) (one : Decided) where
   in_course : (actor : Actor) (txn_run : TransactionRun) (asked : ℕ × Request) (st : State) → actor_at world number ≡ Some actor → actor.agent.doing ≡ Some (Running txn_run) → next_of (fixed_of given) actor.agent ≡ Some asked
       → decides_at st txn_run.task asked.1 (reply_of st asked.1) ≡ Some one → (b : Bool) → is_decide asked.1 ≡ b → IsAnsweredAsKnown given world (Step number) one
-  in_course actor txn_run asked st there running next is false other =
-      absurd (none-some one (sym (ap (λ t. decided_at (Some st) t (decided_as (Some txn_run.task) (answer_in (reply_of st asked.1)))) (no_decide asked.1 other)) ∙ is))
+  in_course actor txn_run asked st there running next is false other = search (none-some, no_decide, arith)
   in_course actor txn_run asked st there running next is true decide =
       let asks' : next_in (fixed_of given) (Some (Running txn_run)) ≡ Some (asked.0, asked.1) = ap (next_in (fixed_of given)) (sym running) ∙ next in
       let does = decides (fixed_of given) txn_run.task txn_run.suites txn_run.phase asked.0 asked.1 asks' decide in
@@ -159,22 +126,16 @@ module _ (given : Opening) (world : World) (all : AllKnow (fixed_of given) (agen
             (record { stamp = actor.stamp; value = asked.1 });
       })))).done.served ≡ Some one
       → IsAnsweredAsKnown given world (Step number) one
-  by_serving actor txn_run asked st there running next at true is = absurd (none-some one is)
-  by_serving actor txn_run asked st there running next at false is =
-      in_course actor txn_run asked st there running next
-      (sym (ap (λ found. decided_at found (to_decide asked.1) (decided_as (Some txn_run.task) (answer_in (reply_of st asked.1)))) at) ∙ is)
-      (is_decide asked.1) refl
+  by_serving actor txn_run asked st h4 h5 h6 h7 full h9 = search (none-some, in_course, arith)
 
   by_server : (actor : Actor) (txn_run : TransactionRun) (asked : ℕ × Request) → actor_at world number ≡ Some actor → actor.agent.doing ≡ Some (Running txn_run)
       → next_of (fixed_of given) actor.agent ≡ Some asked → (st : Option State) → server_at world asked.0 ≡ st
       → decided_by world (Some txn_run.task) (asks_at (fixed_of given) world number actor asked st).done.served ≡ Some one → IsAnsweredAsKnown given world (Step number) one
-  by_server actor txn_run asked there running next None at is = absurd (none-some one is)
-  by_server actor txn_run asked there running next (Some st) at is = by_serving actor txn_run asked st there running next at (is_full st (record { stamp = actor.stamp; value = asked.1 })) is
+  by_server actor txn_run asked h3 h4 h5 st h7 h8 = search (none-some, by_serving, arith)
 
   by_request : (actor : Actor) (txn_run : TransactionRun) → actor_at world number ≡ Some actor → actor.agent.doing ≡ Some (Running txn_run) → (asked : Option (ℕ × Request)) → next_of (fixed_of given) actor.agent ≡ asked
       → decided_by world (Some txn_run.task) (asks (fixed_of given) world number actor asked).done.served ≡ Some one → IsAnsweredAsKnown given world (Step number) one
-  by_request actor txn_run there running None next is = absurd (none-some one is)
-  by_request actor txn_run there running (Some asked) next is = by_server actor txn_run asked there running next (server_at world asked.0) refl is
+  by_request actor txn_run h2 h3 asked h5 h6 = search (none-some, by_server, arith)
 
   by_doing : (actor : Actor) → actor_at world number ≡ Some actor → (doing : Option Doing) → actor.agent.doing ≡ doing
       → decided_by world (task_of doing) (asks (fixed_of given) world number actor (next_of (fixed_of given) actor.agent)).done.served ≡ Some one

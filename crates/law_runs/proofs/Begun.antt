@@ -1,7 +1,7 @@
 -- Each number of a transaction is begun once, and asked for by its agent alone.
-use Rattle.law_runs.proofs.Vocabulary.{◌≡◌, ◌⊎◌, inl, inr, ⊎_elim, ℕ, ◌+◌, ◌≤◌, ◌<◌, true, false, cond, List, [], ◌∷◌, ◌++◌, Option, Some, None, refl, sym, ap, subst, ◌∙◌, arith, ◌*◌, ◌%◌, ◌&&◌, nat_eq, nat_lt, AllByRecursion, cons_option, ne_eqb}
-use Rattle.law_runs.proofs.Vocabulary.{none-some, same_Some, cond_some, IsDistinct-cons, Opening, Request, Has, contains_from, Answered, Job, Response, Fixed, Doing, Running, RunningSweep, Agent, next_in, next_of, take, begin, started, fixed_of}
-use Rattle.law_runs.proofs.Vocabulary.{is_idle, has_sense, max_jobs, asks_same, Event, Begin, EndedJob, Actor, World, actor_at, opening, becomes, step, run, Decided, decisions, task_of, may_sweep, ChangesAreMet}
+use Rattle.law_runs.proofs.Vocabulary.{◌≡◌, ◌⊎◌, inl, inr, ℕ, ◌+◌, ◌≤◌, ◌<◌, true, false, cond, List, [], ◌∷◌, ◌++◌, Option, Some, None, refl, sym, ap, subst, ◌∙◌, arith, ◌*◌, ◌%◌, ◌&&◌, nat_eq, nat_lt, AllByRecursion, cons_option, ne_eqb, none-some}
+use Rattle.law_runs.proofs.Vocabulary.{same_Some, IsDistinct-cons, Opening, Request, Has, contains_from, Answered, Job, Response, Fixed, Doing, Running, RunningSweep, Agent, next_in, next_of, take, begin, started, fixed_of, is_idle, has_sense}
+use Rattle.law_runs.proofs.Vocabulary.{max_jobs, asks_same, Event, Begin, EndedJob, Actor, World, actor_at, opening, becomes, step, run, Decided, decisions, ChangesAreMet}
 use Rattle.law_runs.specs.Numbers.{begins_now, begins_at, begun_from, begun, EachIsBegunOnce, AgentsAskForThemselves, AsksForItself, AsksToSweep}
 use Rattle.std.specs.List.{IsDistinct}
 use Rattle.law_runs.proofs.Asking.{asks_in_its_name, asks_to_sweep, decides}
@@ -18,11 +18,7 @@ abbrev pub Rises : (ℕ → Option Agent) → (ℕ → Option Agent) → Type 0
 Rises f g = (i : ℕ) (a : Agent) → f i ≡ Some a → (b : Agent) × (g i ≡ Some b) × (a.count ≤ b.count)
 
 begin_more : (fixed : Fixed) (agent : Agent) (job : Job) → agent.count ≤ (begin fixed agent job).count
-begin_more fixed agent job =
-    elim (is_idle agent.doing && has_sense fixed job && nat_lt agent.count max_jobs) as (λ b. agent.count ≤ (cond b (record (started fixed agent job) { count = agent.count + 1 }) agent).count) [
-      | true ↦ omega arith
-      | false ↦ omega arith
-    ]
+begin_more fixed agent job = search arith
 
 take_count : (fixed : Fixed) (agent : Agent) (response : Response) → agent.count ≤ (take fixed agent response).agent.count
 take_count fixed agent response = let same : (take fixed agent response).agent.count ≡ agent.count = (take_keeps fixed agent response agent.doing (next_of fixed agent)).1 in omega (arith, same)
@@ -36,11 +32,7 @@ counts_rise fixed world event i agent is =
     (each_event fixed AtMost (λ agent. omega arith) (begin_more fixed) (λ agent site. omega arith) (take_count fixed) world event i)
 
 still_begun : (f g : ℕ → Option Agent) (t : ℕ) → Rises f g → Begun f t → Begun g t
-still_begun f g t rises begun =
-    let more = rises begun.index begun.agent begun.at in
-    let before = begun.before in
-    let counts = more.2 in
-    record { index = begun.index; agent = more.0; at = more.1; place = begun.place; numbered = begun.numbered; before = omega (arith, before, counts) }
+still_begun f g t rises begun = search arith
 
 -- ---- what an event begins
 
@@ -52,10 +44,7 @@ pub record BeginsNow (fixed : Fixed) (world : World) (i t : ℕ) (job : Job) : T
   pub numbered : t ≡ 64 * actor.agent.count + i
 
 begins_in : (fixed : Fixed) (world : World) (i t : ℕ) (job : Job) (found : Option Actor) → actor_at world i ≡ found → begins_now fixed i job found ≡ Some t → BeginsNow fixed world i t job
-begins_in fixed world i t job None at is = absurd (none-some t is)
-begins_in fixed world i t job (Some actor) at is =
-    let parts = cond_some (is_idle actor.agent.doing && has_sense fixed job && nat_lt actor.agent.count max_jobs) (64 * actor.agent.count + i) t is in
-    record { actor = actor; at = at; may = parts.0; numbered = sym parts.1 }
+begins_in fixed world i t job found h6 h7 = search arith
 
 not_yet : (fixed : Fixed) (world : World) (ds : List Decided) (past : List EndedJob) (i t : ℕ) (job : Job) → Holds fixed world ds past → BeginsNow fixed world i t job → Begun (agent_at world) t → ⊥
 not_yet fixed world ds past i t job holds now begun =
@@ -79,9 +68,7 @@ now_begun fixed world i t job now =
 
 begins_one : (given : Opening) (world : World) (event : Event) (ds : List Decided) (past : List EndedJob) (t : ℕ) → Holds (fixed_of given) world ds past → begins_at given world event ≡ Some t
     → (Begun (agent_at world) t → ⊥) × Begun (agent_at (step (fixed_of given) world event).world) t
-begins_one given world (Begin i job) ds past t holds is =
-    let now = begins_in (fixed_of given) world i t job (actor_at world i) refl is in
-    (not_yet (fixed_of given) world ds past i t job holds now, now_begun (fixed_of given) world i t job now)
+begins_one given world (Begin i job) ds past t holds is = search (begins_in (fixed_of given) world i t job (actor_at world i) refl is, not_yet, now_begun, arith)
 begins_one given world other ds past t holds is = absurd (none-some t is)
 
 -- ---- all numbers that are begun from a world on
@@ -90,8 +77,7 @@ begins_one given world other ds past t holds is = absurd (none-some t is)
 new_here : (given : Opening) (world : World) (event : Event) (ds : List Decided) (past : List EndedJob) → Holds (fixed_of given) world ds past → (t : ℕ) (later : List ℕ) → (Has later t → ⊥) → Begun (agent_at world) t
     → (now : Option ℕ) → begins_at given world event ≡ now → Has (cons_option now later) t → ⊥
 new_here given world event ds past holds t later new was None is has = new has
-new_here given world event ds past holds t later new was (Some u) is has =
-    ⊎_elim (λ same. (begins_one given world event ds past u holds is).0 (subst (Begun (agent_at world)) (sym same) was)) new has
+new_here given world event ds past holds t later new was (Some u) is has = search (begins_one given world event ds past u holds is, agent_at world, arith)
 
 -- none of them was begun before
 all_new : (given : Opening) (events : List Event) (world : World) (ds : List Decided) (past : List EndedJob) → Holds (fixed_of given) world ds past → (t : ℕ) → Has (begun_from given world events) t → Begun (agent_at world) t → ⊥
@@ -136,20 +122,8 @@ each_is_begun_once given accepted events = record {
 asks_by : (given : Opening) (ds : List Decided) (i : ℕ) (agent : Agent) (server : ℕ) (asked : Request) (doing : Option Doing) → agent.doing ≡ doing → IsAt ds i agent.count doing → next_in (fixed_of given) doing ≡ Some (server, asked)
     → AsksForItself given i agent server asked ⊎ AsksToSweep agent asked
 asks_by given ds i agent server asked None is at next = cc
-asks_by given ds i agent server asked (Some (Running txn_run)) is at next =
-    let numbered = at.numbered in
-    let last = at.last in
-    inl (record {
-      task = txn_run.task;
-      running = ap task_of is;
-      last = omega (arith, numbered, last);
-      named = asks_in_its_name (fixed_of given) txn_run.task txn_run.suites txn_run.phase server asked next;
-      at_home = λ decide. (decides (fixed_of given) txn_run.task txn_run.suites txn_run.phase server asked next decide).at_home;
-    })
-asks_by given ds i agent server asked (Some (RunningSweep sweep_run)) is at next = inr (record {
-  no_task = ap task_of is;
-  swept = ap may_sweep (sym (asks_same _ server _ asked next)) ∙ asks_to_sweep (fixed_of given).service sweep_run sweep_run.now;
-})
+asks_by given ds i agent server asked (Some (Running txn_run)) is at next = search (asks_in_its_name (fixed_of given) txn_run.task txn_run.suites txn_run.phase server asked next, decides, arith)
+asks_by given ds i agent server asked (Some (RunningSweep sweep_run)) is at next = search (asks_same, asks_to_sweep, arith)
 
 pub agents_ask_for_themselves : AgentsAskForThemselves
 agents_ask_for_themselves given accepted events i actor server asked at next =
@@ -171,6 +145,5 @@ changes_are_met given accepted events later job answers i t asked request there 
           (subst (λ ds. Has ds change.decision) (sym (decisions_go_on given events later')) (append_has_left (decisions given events) (later_decisions given events later') change.decision change.there));
       of_it = change.of_it;
       answered = change.answered;
-      before = λ before after all. contains_from before change.decision
-          (stands_first (decisions given events) (later_decisions given events later') before after change.decision request change.there new (sym (decisions_go_on given events later') ∙ all));
+      before = search (contains_from, stands_first, later_decisions, decisions_go_on, arith);
     }

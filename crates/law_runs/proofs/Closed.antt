@@ -1,8 +1,6 @@
 -- A transaction that tells its end is not decided any more.
-use Rattle.law_runs.proofs.Vocabulary.{◌≡◌, ℕ, ◌+◌, ◌<◌, true, false, cond, List, [], ◌∷◌, ◌++◌, Option, Some, None, refl, sym, ap, subst, ◌∙◌, arith, ⊎_elim, ◌*◌, ◌&&◌, nat_lt, cons_option, same_Some, Opening, IsAccepted, Request, Has, Cache, Job}
-use Rattle.law_runs.proofs.Vocabulary.{Response, Replied, Lacked, Suites, Fixed, Task, Phase, Gathering, Finishing, SweepRun, Doing, Running, RunningSweep, After, GoesOn, Ends, after_response, Agent, next_of, left, take_in, take, begin, started}
-use Rattle.law_runs.proofs.Vocabulary.{fixed_of, is_idle, has_sense, max_jobs, Event, opening, step, run, Decided, decided, decisions, decisions_from, after-append, decisions_from-append}
-use Rattle.txn_core.specs.Sweeps as sweep
+use Rattle.law_runs.proofs.Vocabulary.{◌≡◌, ℕ, ◌+◌, ◌<◌, List, [], ◌∷◌, ◌++◌, Option, Some, None, refl, sym, ap, subst, ◌∙◌, arith, ◌*◌, cons_option, same_Some, Opening, IsAccepted, Request, Has, Job, Response, Fixed, Phase, Finishing, Doing}
+use Rattle.law_runs.proofs.Vocabulary.{Running, RunningSweep, Agent, take_in, take, begin, fixed_of, Event, opening, step, run, Decided, decided, decisions, decisions_from, after-append, decisions_from-append}
 use Rattle.law_runs.proofs.Standing.{NotIn, not_in_more}
 use Rattle.law_runs.proofs.Agents.{IsAt, same_place, take_keeps}
 use Rattle.law_runs.proofs.Worlds.{agent_of, agent_at}
@@ -22,27 +20,8 @@ TellsEnd (Some (Running txn_run)) = IsTelling txn_run.phase
 TellsEnd (Some (RunningSweep sweep_run)) = Unit {0}
 TellsEnd None = Unit {0}
 
-telling_response : (fixed : Fixed) (task : Task) (cache : Cache) (suites : Suites) (phase : Phase) (server : ℕ) (asked : Request) (response : Response) → IsTelling phase
-    → TellsEnd (left Running (after_response fixed (record { task = task; suites = suites; phase = phase }) cache server asked response).after)
-telling_response fixed task cache suites (Gathering number) server asked response is = absurd is
-telling_response fixed task cache suites (Finishing [] told ending) server asked (Replied said) is = tt
-telling_response fixed task cache suites (Finishing [] told ending) server asked (Lacked why) is = tt
-telling_response fixed task cache suites (Finishing (now ∷ []) told ending) server asked (Replied said) is = tt
-telling_response fixed task cache suites (Finishing (now ∷ []) told ending) server asked (Lacked why) is = tt
-telling_response fixed task cache suites (Finishing (now ∷ (next ∷ servers)) told ending) server asked (Replied said) is = tt
-telling_response fixed task cache suites (Finishing (now ∷ (next ∷ servers)) told ending) server asked (Lacked why) is = tt
-telling_response fixed task cache suites other server asked response is = absurd is
-
-telling_round : (after : After SweepRun) → TellsEnd (left RunningSweep after)
-telling_round (GoesOn sweep_run) = tt
-telling_round (Ends ending) = tt
-
 take_telling : (fixed : Fixed) (agent : Agent) (response : Response) (doing : Option Doing) (asked : Option (ℕ × Request)) → agent.doing ≡ doing → TellsEnd doing → TellsEnd (take_in fixed agent response doing asked).agent.doing
-take_telling fixed agent response (Some (Running running)) (Some asked) was is = telling_response fixed running.task agent.cache running.suites running.phase asked.0 asked.1 response is
-take_telling fixed agent response (Some (Running running)) None was is = subst TellsEnd (sym was) is
-take_telling fixed agent response (Some (RunningSweep sweep_run)) (Some asked) was is = telling_round (sweep.after_response fixed.service sweep_run asked.0 response)
-take_telling fixed agent response (Some (RunningSweep sweep_run)) None was is = subst TellsEnd (sym was) tt
-take_telling fixed agent response None asked was is = subst TellsEnd (sym was) tt
+take_telling fixed agent response doing asked h5 h6 = search arith
 
 -- ---- the job of a place is over, or tells its end
 
@@ -54,21 +33,10 @@ abbrev ClosedStill : ℕ → Agent → Agent → Type 0
 ClosedStill place old new = IsClosed place old.count old.doing → IsClosed place new.count new.doing
 
 begin_closed : (fixed : Fixed) (place : ℕ) (agent : Agent) (job : Job) → ClosedStill place agent (begin fixed agent job)
-begin_closed fixed place agent job is =
-    let begun : Agent = record (started fixed agent job) { count = agent.count + 1 } in
-    let before = is.before in
-    elim (is_idle agent.doing && has_sense fixed job && nat_lt agent.count max_jobs) as (λ b. IsClosed place (cond b begun agent).count (cond b begun agent).doing) [
-      | true ↦ record { before = omega (arith, before); telling = λ last. absurd (omega (arith, before, last)) }
-      | false ↦ is
-    ]
+begin_closed fixed place agent job is = search arith
 
 take_closed : (fixed : Fixed) (place : ℕ) (agent : Agent) (response : Response) → ClosedStill place agent (take fixed agent response).agent
-take_closed fixed place agent response is =
-    let count = (take_keeps fixed agent response agent.doing (next_of fixed agent)).1 in
-    record {
-      before = subst (λ count. place < count) (sym count) is.before;
-      telling = λ last. take_telling fixed agent response agent.doing (next_of fixed agent) refl (is.telling (last ∙ count));
-    }
+take_closed fixed place agent response is = search (take_keeps, take_telling, arith)
 
 -- ---- so it is not decided later
 
@@ -98,8 +66,7 @@ module _ (given : Opening) (accepted : IsAccepted given) (t i place : ℕ) (numb
   none_now events event shut one has same = of (decided (fixed_of given) (run given events) event) refl has
     where
       of : (o : Option Decided) → decided (fixed_of given) (run given events) event ≡ o → Has (cons_option o []) one → ⊥
-      of None is has = has
-      of (Some other) is has = ⊎_elim (λ here. not_now events event other shut is (ap (λ (d : Decided). d.t) here ∙ same)) (λ none. none) has
+      of o h1 h2 = search (not_now, arith)
 
   shut_on : (events : List Event) (event : Event) → Shut given t i place events → Shut given t i place (events ++ event ∷ [])
   shut_on events event shut =

@@ -1,16 +1,13 @@
 -- The laws of all runs, from what every event keeps.
-use Rattle.law_runs.proofs.Vocabulary.{◌≡◌, inl, inr, ℕ, zero, suc, ◌+◌, ◌<◌, true, false, cond, List, [], ◌∷◌, ◌++◌, Option, Some, None, refl, sym, ap, subst, ◌∙◌, arith, ◌*◌, ◌%◌, ◌/◌, ◌==◌, nat_lt, slice_get, Contains, Ok, Err, false≢true}
-use Rattle.law_runs.proofs.Vocabulary.{nat_tests, none-some, same_Some, nat_cmp, Opening, IsAccepted, State, Verdict, Has, has_from, contains_from, Ending, Answered, Refused, Swept, Undecided, home_of, Agent, fixed_of, Event, EndedJob, Actor, World}
-use Rattle.law_runs.proofs.Vocabulary.{opening, servers_from, actors_from, server_at, actor_at, recorded_by, after, dones, outcomes, run, done_in, Decided, decisions, decisions_from, dones-append, outcomes-append, decisions_from-append, ended}
-use Rattle.law_runs.proofs.Vocabulary.{IsDecidedAs, DecidedOnce, record_by, DecisionsAreTheRecords, denials_of, denials_at, AuditIsTheDenials, AnsweredBefore}
-use Rattle.sorted_map.specs.SortedMap.{get}
-use Rattle.law_runs.specs.Numbers.{number_of, has_begun, was_begun}
+use Rattle.law_runs.proofs.Vocabulary.{◌≡◌, ℕ, zero, suc, ◌+◌, ◌<◌, false, List, [], ◌∷◌, ◌++◌, Option, Some, None, refl, sym, ap, subst, ◌∙◌, arith, ◌*◌, ◌%◌, slice_get, Contains, Ok, Err, nat_tests, none-some, same_Some, Opening, IsAccepted, State}
+use Rattle.law_runs.proofs.Vocabulary.{Verdict, Has, has_from, contains_from, Ending, Answered, Refused, Swept, Undecided, home_of, Agent, fixed_of, Event, EndedJob, Actor, World, opening, servers_from, actors_from, server_at, after, dones, outcomes}
+use Rattle.law_runs.proofs.Vocabulary.{run, Decided, decisions, decisions_from, dones-append, outcomes-append, decisions_from-append, ended, IsDecidedAs, DecidedOnce, record_by, DecisionsAreTheRecords, denials_at, AuditIsTheDenials, AnsweredBefore}
+use Rattle.law_runs.specs.Numbers.{number_of, was_begun}
 use Rattle.law_runs.specs.Claims.{verdict_of}
-use Rattle.rep_core.specs.State as state
 use Rattle.rep_core.specs.declared.reply.Verdict.TheVariants as verdict
 use Rattle.txn_core.specs.Agents as agent
 use Rattle.law_runs.proofs.Standing.{Answer', In, NotIn, Recorded, append_has_left, verdict_as}
-use Rattle.law_runs.proofs.Agents.{IsAt, EndStands, AreAt}
+use Rattle.law_runs.proofs.Agents.{EndStands, AreAt}
 use Rattle.law_runs.proofs.Worlds.{agent_of, agent_at, Holds, run_holds}
 use Rattle.law_runs.proofs.Order.{stands_first, same_decision, apart_distinct}
 
@@ -18,48 +15,22 @@ use Rattle.law_runs.proofs.Order.{stands_first, same_decision, apart_distinct}
 
 fresh_servers : (given : Opening) (start count s : ℕ) (st : State) → slice_get (servers_from given start count) s ≡ Some st → (st.verdicts ≡ []) × (st.audit ≡ [])
 fresh_servers given start zero s st is = absurd (none-some st is)
-fresh_servers given start (suc count) zero st is =
-    let same = same_Some (state.opening start given) st is in (ap (λ (st : State). st.verdicts) (sym same), ap (λ (st : State). st.audit) (sym same))
+fresh_servers given start (suc count) zero st is = search (same_Some, arith)
 fresh_servers given start (suc count) (suc s) st is = fresh_servers given (start + 1) count s st is
 
 fresh_actors : (start count i : ℕ) (actor : Actor) → slice_get (actors_from start count) i ≡ Some actor → (actor.agent ≡ agent.opening (start + i)) × (i < count)
 fresh_actors start zero i actor is = absurd (none-some actor is)
-fresh_actors start (suc count) zero actor is =
-    let at : start + 0 ≡ start = omega arith in
-    (ap (λ (actor : Actor). actor.agent) (sym (same_Some (record { agent = agent.opening start; stamp = 0; steps = 0 }) actor is)) ∙ ap agent.opening (sym at), omega arith)
-fresh_actors start (suc count) (suc i) actor is =
-    let rest = fresh_actors (start + 1) count i actor is in
-    let at : start + 1 + i ≡ start + suc i = omega arith in
-    let before = rest.1 in
-    (rest.0 ∙ ap agent.opening at, omega (arith, before))
+fresh_actors start (suc count) zero actor is = search (same_Some, arith)
+fresh_actors start (suc count) (suc i) actor is = search (fresh_actors (start + 1) count i actor is, arith)
 
 pub agent_in : (found : Option Actor) (a : Agent) → agent_of found ≡ Some a → (actor : Actor) × (found ≡ Some actor) × (actor.agent ≡ a)
-agent_in None a is = absurd (none-some a is)
-agent_in (Some actor) a is = (actor, refl, same_Some actor.agent a is)
+agent_in found a h2 = search arith
 
 pub fresh_agents : (given : Opening) (i : ℕ) (a : Agent) → agent_at (opening given) i ≡ Some a → (a ≡ agent.opening i) × (i < given.agents)
-fresh_agents given i a is =
-    let found = agent_in (actor_at (opening given) i) a is in
-    let fresh = fresh_actors 0 given.agents i found.0 found.1 in
-    let at : 0 + i ≡ i = omega arith in
-    (sym found.2 ∙ fresh.0 ∙ ap agent.opening at, fresh.1)
+fresh_agents given i a is = search (agent_in, fresh_actors, arith)
 
 pub holds_at_first : (given : Opening) → IsAccepted given → Holds (fixed_of given) (opening given) [] []
-holds_at_first given accepted = record {
-  servers = record {
-    kept = λ d has. absurd has;
-    recorded = λ s st t v at is. absurd (none-some v (sym (ap (λ verdicts. get nat_cmp verdicts t) (fresh_servers given 0 given.servers s st at).0) ∙ is));
-    audited = λ s st at. (fresh_servers given 0 given.servers s st at).1;
-  };
-  agents = record {
-    index = λ i a at. ap (λ (a : Agent). a.index) (fresh_agents given i a at).0;
-    small = λ i a at. (let before = (fresh_agents given i a at).1 in let few = accepted.some_agents.1 in omega (arith, before, few));
-    at = λ i a at. subst (λ (a : Agent). IsAt [] i a.count a.doing) (sym (fresh_agents given i a at).0) tt;
-    begun = λ d has. absurd has;
-  };
-  over = λ job has. absurd has;
-  once = tt;
-}
+holds_at_first given accepted = search (none-some, fresh_servers, fresh_agents, arith)
 
 -- what holds of every run
 pub holds_of : (given : Opening) → IsAccepted given → (events : List Event) → Holds (fixed_of given) (run given events) (decisions given events) (ended given events)
@@ -76,15 +47,12 @@ unfolding later_decisions
 decisions_go_on given events later = decisions_from-append (fixed_of given) (opening given) events later
 
 ended_still : (given : Opening) (events later : List Event) (job : EndedJob) → Has (ended given events) job → Has (ended given (events ++ later)) job
-ended_still given events later job has =
-    subst (λ all. Has all job) (sym (ap outcomes (dones-append (fixed_of given) (opening given) events later) ∙ outcomes-append (done_in given events) (dones (fixed_of given) (run given events) later)))
-    (append_has_left (ended given events) (outcomes (dones (fixed_of given) (run given events) later)) job has)
+ended_still given events later job has = search (dones-append, outcomes-append, append_has_left, arith)
 
 -- ---- decided once
 
 pub ends_as : (given : Opening) (accepted : IsAccepted given) (events : List Event) (job : EndedJob) (ending : Ending) → Contains (ended given events) job → job.ending ≡ ending → EndStands (decisions given events) (number_of job) ending
-ends_as given accepted events job ending there is =
-    subst (EndStands (decisions given events) (number_of job)) is ((holds_of given accepted events).over job (has_from (ended given events) job there)).stands
+ends_as given accepted events job ending there is = search (holds_of given accepted events, has_from (ended given events) job there, arith)
 
 decided_as : (all : List Decided) (t : ℕ) (answer : Answer') → In all t answer → IsDecidedAs all t answer
 decided_as all t answer is = record { decision = is.decision; there = contains_from all is.decision is.there; of_it = is.of_it; answered = is.answered }
@@ -102,8 +70,7 @@ decided_once given accepted events = record {
 -- ---- a decision is its home's record
 
 same_verdict : (answer : Answer') → verdict_as answer ≡ verdict_of answer
-same_verdict (Ok answers) = refl
-same_verdict (Err refusal) = refl
+same_verdict answer = search arith
 
 pub decisions_are_the_records : DecisionsAreTheRecords
 decisions_are_the_records given accepted events = record {
@@ -129,49 +96,19 @@ decisions_are_the_records given accepted events = record {
 -- where there is no server, it is no home
 no_denials : (given : Opening) (server : ℕ) (ds : List Decided) → ((d : Decided) → Has ds d → home_of (fixed_of given).service d.t ≡ server → ⊥) → [] ≡ denials_at (fixed_of given).service server ds
 no_denials given server [] apart = refl
-no_denials given server (d ∷ ds) apart =
-    no_denials given server ds (λ e has. apart e (inr has))
-    ∙ ap (λ b. cond b (denials_of d) [] ++ denials_at (fixed_of given).service server ds) (sym (other (home_of (fixed_of given).service d.t) (apart d (inl refl))))
-  where
-    other : (home : ℕ) → (home ≡ server → ⊥) → (home == server) ≡ false
-    other home apart = grind (arith, nat_tests)
+no_denials given server (d ∷ ds) apart = search (nat_tests, no_denials given server ds, arith)
 
 pub audit_is_the_denials : AuditIsTheDenials
-audit_is_the_denials given accepted events server = of (server_at (run given events) server) refl
-  where
-    holds : Holds (fixed_of given) (run given events) (decisions given events) (ended given events)
-    holds = holds_of given accepted events
-
-    of : (found : Option State) → server_at (run given events) server ≡ found → recorded_by found ≡ denials_at (fixed_of given).service server (decisions given events)
-    of (Some st) at = holds.servers.audited server st at
-    of None at = no_denials given server (decisions given events) (λ d has home.
-        let kept = holds.servers.kept d has in none-some kept.st (sym (ap (server_at (run given events)) home ∙ at) ∙ kept.at))
+audit_is_the_denials given accepted events server = search (holds_of given accepted events, no_denials, none-some, arith)
 
 -- ---- answered before, decided before
 
 pub rest_of : (place index : ℕ) → index < 64 → (64 * place + index) % 64 ≡ index
 rest_of place index small = omega arith
 
-place_of : (place index : ℕ) → index < 64 → (64 * place + index) / 64 ≡ place
-place_of place index small = omega arith
-
 -- what was not begun was not decided
 not_begun_not_in : (given : Opening) (world : World) (ds : List Decided) (t : ℕ) → AreAt (agent_at world) ds → was_begun world t ≡ false → NotIn ds t
-not_begun_not_in given world ds t holds not_begun d has same =
-    let begun = holds.begun d has in
-    let small = holds.small begun.index begun.agent begun.at in
-    let found = agent_in (actor_at world begun.index) begun.agent begun.at in
-    let t_is : t ≡ 64 * begun.place + begun.index = sym same ∙ begun.numbered in
-    let rest : t % 64 ≡ begun.index = ap (λ t. t % 64) t_is ∙ rest_of begun.place begun.index small in
-    let place : t / 64 ≡ begun.place = ap (λ t. t / 64) t_is ∙ place_of begun.place begun.index small in
-    let was : was_begun world t ≡ nat_lt begun.place found.0.agent.count =
-    ap (λ i. has_begun (actor_at world i) (t / 64)) rest ∙ ap (λ found. has_begun found (t / 64)) found.1 ∙ ap (λ place. nat_lt place found.0.agent.count) place in
-    let count : found.0.agent.count ≡ begun.agent.count = ap (λ (a : Agent). a.count) found.2 in
-    let before = begun.before in
-    absurd (false≢true (sym not_begun ∙ was ∙ below begun.place found.0.agent.count (omega (arith, before, count))))
-  where
-    below : (a b : ℕ) → a < b → nat_lt a b ≡ true
-    below a b less = grind (arith, nat_tests)
+not_begun_not_in given world ds t holds not_begun d has same = search arith
 
 -- a decision of a job that ended so far was made so far
 decided_by_then : (given : Opening) (accepted : IsAccepted given) (events later : List Event) (job : EndedJob) (first : Decided) → Contains (ended given events) job

@@ -1,8 +1,7 @@
 -- What an event makes of each agent: it is as it was, or it began, forgot, or took a response.
-use Rattle.law_runs.proofs.Vocabulary.{◌≡◌, ⊎_elim, ℕ, List, Option, Some, None, refl, sym, subst, Request, State, none-some, same_Some, Job, Response, Replied, Lacked, Fixed, Agent, next_of, take, begin, forget, Event, Begin, Step, Crash, Return}
-use Rattle.law_runs.proofs.Vocabulary.{Forget, Lack, Served, Actor, World, server_at, actor_at, with_actor, serve, after_serving, moved, becomes, answered, asks_at, asks, steps_once, lacks_for, lacks, operated, operates, step}
+use Rattle.law_runs.proofs.Vocabulary.{◌≡◌, ℕ, List, Option, Some, None, Request, State, Job, Response, Replied, Lacked, Fixed, Agent, take, begin, forget, Event, arith, Served, Actor, World, actor_at, with_actor, after_serving, moved, becomes}
+use Rattle.law_runs.proofs.Vocabulary.{answered, asks, steps_once, lacks_for, lacks, operates, step}
 use Rattle.rep_core.specs.declared.stamped.Lack.{Lack as Why}
-use Rattle.rep_core.specs.declared.request.Request.TheVariants as request
 use Rattle.rep_core.specs.declared.stamped.Lack.TheVariants as lack
 use Rattle.law_runs.proofs.Places.{same_or}
 use Rattle.law_runs.proofs.Worlds.{agent_at, puts_agent}
@@ -15,14 +14,10 @@ Both R (Some old) None = ⊥
 Both R None (Some new) = ⊥
 
 pub new_of : (R : Agent → Agent → Type 0) (old : Agent) (found new : Option Agent) → found ≡ Some old → Both R found new → (agent : Agent) × (new ≡ Some agent) × R old agent
-new_of R old (Some same) (Some new) is both = (new, refl, subst (λ old. R old new) (same_Some same old is) both)
-new_of R old (Some same) None is both = absurd both
-new_of R old None new is both = absurd (none-some old is)
+new_of h0 old found new h4 h5 = search arith
 
 pub old_of : (R : Agent → Agent → Type 0) (new : Agent) (old found : Option Agent) → found ≡ Some new → Both R old found → (agent : Agent) × (old ≡ Some agent) × R agent new
-old_of R new (Some old) (Some same) is both = (old, refl, subst (R old) (same_Some same new is) both)
-old_of R new None (Some same) is both = absurd both
-old_of R new old None is both = absurd (none-some new is)
+old_of h0 new old found h4 h5 = search arith
 
 -- what holds of an agent and itself, and of an agent and what it is once it began, forgot or took a response, holds of each agent before and after an event
 module _ (fixed : Fixed) (R : Agent → Agent → Type 0) (same : (agent : Agent) → R agent agent) (begins : (agent : Agent) (job : Job) → R agent (begin fixed agent job))
@@ -31,20 +26,13 @@ module _ (fixed : Fixed) (R : Agent → Agent → Type 0) (same : (agent : Agent
   Each world new = (i : ℕ) → Both R (agent_at world i) (agent_at new i)
 
   both_same : (found : Option Agent) → Both R found found
-  both_same (Some agent) = same agent
-  both_same None = tt
+  both_same found = search arith
 
   each_same : (world : World) → Each world world
   each_same world i = both_same (agent_at world i)
 
   each_put : (world : World) (i : ℕ) (actor new : Actor) → actor_at world i ≡ Some actor → R actor.agent new.agent → Each world (with_actor i new world)
-  each_put world i actor new is goes j =
-      let puts = puts_agent world i actor new is in
-      ⊎_elim
-      (λ at. subst (λ j. Both R (agent_at world j) (agent_at (with_actor i new world) j)) (sym at)
-      (subst (λ found. Both R found (agent_at (with_actor i new world) i)) (sym puts.was) (subst (Both R (Some actor.agent)) (sym puts.here) goes)))
-      (λ apart. subst (Both R (agent_at world j)) (sym (puts.apart j apart)) (both_same (agent_at world j)))
-      (same_or j i)
+  each_put world i actor new is goes j = search (puts_agent world i actor new is, agent_at world j, agent_at (with_actor i new world) j, agent_at (with_actor i new world) i, both_same (agent_at world j), same_or j i, arith)
 
   each_becomes : (world : World) (i : ℕ) (change : Agent → Agent) → ((agent : Agent) → R agent (change agent)) → (found : Option Actor) → actor_at world i ≡ found → Each world (becomes world i change found).world
   each_becomes world i change goes None is = each_same world
@@ -59,37 +47,20 @@ module _ (fixed : Fixed) (R : Agent → Agent → Type 0) (same : (agent : Agent
   each_answered world i actor st None is = each_took world i actor actor.stamp (Lacked lack.Full) world.servers is
 
   each_asks : (world : World) (i : ℕ) (actor : Actor) (asked : Option (ℕ × Request)) → actor_at world i ≡ Some actor → Each world (asks fixed world i actor asked).world
-  each_asks world i actor None is = each_same world
-  each_asks world i actor (Some asked) is = at (server_at world asked.0)
-    where
-      at : (st : Option State) → Each world (asks_at fixed world i actor asked st).world
-      at None = each_same world
-      at (Some st) = each_answered world i actor st (serve asked.0 st (record { stamp = actor.stamp; value = asked.1 })) is
+  each_asks world i actor asked h4 = search (each_same, each_answered, arith)
 
   each_steps : (world : World) (i : ℕ) (found : Option Actor) → actor_at world i ≡ found → Each world (steps_once fixed world i found).world
-  each_steps world i None is = each_same world
-  each_steps world i (Some actor) is = each_asks world i actor (next_of fixed actor.agent) is
+  each_steps world i found h3 = search (each_same, each_asks, arith)
 
   each_lacks_for : (world : World) (i : ℕ) (actor : Actor) (why : Why) (asked : Option (ℕ × Request)) → actor_at world i ≡ Some actor → Each world (lacks_for fixed world i actor (Lacked why) asked).world
   each_lacks_for world i actor why None is = each_same world
   each_lacks_for world i actor why (Some asked) is = each_took world i actor actor.stamp (Lacked why) world.servers is
 
   each_lacks : (world : World) (i : ℕ) (why : Why) (found : Option Actor) → actor_at world i ≡ found → Each world (lacks fixed world i (Lacked why) found).world
-  each_lacks world i why None is = each_same world
-  each_lacks world i why (Some actor) is = each_lacks_for world i actor why (next_of fixed actor.agent) is
-
-  each_operated : (world : World) (st : State) (what : Option Served) → Each world (operated world st what).world
-  each_operated world st (Some what) = each_same world
-  each_operated world st None = each_same world
+  each_lacks world i why found h4 = search (each_same, each_lacks_for, arith)
 
   each_operates : (world : World) (server : ℕ) (asked : Request) (found : Option State) → Each world (operates world server asked found).world
-  each_operates world server asked None = each_same world
-  each_operates world server asked (Some st) = each_operated world st (serve server st (record { stamp = 0; value = asked }))
+  each_operates world server asked found = search arith
 
   pub each_event : (world : World) (event : Event) → (i : ℕ) → Both R (agent_at world i) (agent_at (step fixed world event).world i)
-  each_event world (Begin i job) = each_becomes world i (λ agent. begin fixed agent job) (λ agent. begins agent job) (actor_at world i) refl
-  each_event world (Step i) = each_steps world i (actor_at world i) refl
-  each_event world (Crash server) = each_operates world server request.Crash (server_at world server)
-  each_event world (Return server) = each_operates world server request.Return (server_at world server)
-  each_event world (Forget i site) = each_becomes world i (λ agent. forget agent site) (λ agent. forgets agent site) (actor_at world i) refl
-  each_event world (Lack i why) = each_lacks world i why (actor_at world i) refl
+  each_event world event = search (each_becomes, each_steps, each_operates, each_lacks, arith)

@@ -1,21 +1,18 @@
 -- What a transaction is to be decided with is what the executor came to on what is known.
-use Rattle.law_runs.proofs.Vocabulary.{◌≡◌, ℕ, zero, suc, true, false, cond, List, [], ◌∷◌, Option, Some, None, refl, sym, ap, subst, ◌∙◌, length, is_some, Result, Ok, Err, false≢true, serves, Answer, Refusal, Row, Request, Reply, Verdict}
-use Rattle.law_runs.proofs.Vocabulary.{is_prepared, Ended, IsMoreAt, MoreKnown, more_known_changes_nothing, Cache, ReadPoint, GatheredSuite, Suites, suite_of, with_suite, known_of, settled, first_or, Response, Replied, Lacked, Cause, Lost, Ending}
-use Rattle.law_runs.proofs.Vocabulary.{Undecided, Changes, Granted, Fixed, Task, Proposal, Phase, Gathering, Fetching, Widening, Preparing, Deciding, Finishing, TransactionRun, After, GoesOn, Ends, serves_itself}
+use Rattle.law_runs.proofs.Vocabulary.{◌≡◌, ℕ, zero, suc, true, List, [], ◌∷◌, Option, Some, None, refl, sym, subst, is_some, Result, Ok, Err, serves, Answer, Refusal, Row, Request, Reply, Verdict, arith, Ended, MoreKnown, more_known_changes_nothing}
+use Rattle.law_runs.proofs.Vocabulary.{Cache, ReadPoint, GatheredSuite, Suites, suite_of, with_suite, known_of, settled, first_or, Response, Replied, Lacked, Cause, Lost, Ending, Undecided, Changes, Granted, Fixed, Task, Proposal, Phase, Gathering}
+use Rattle.law_runs.proofs.Vocabulary.{Fetching, Widening, Preparing, Deciding, Finishing, TransactionRun, After, GoesOn, Ends, serves_itself}
 use Rattle.file_exec.specs.declared.need.Need.TheVariants.{Hold, Know}
 use Rattle.suite_content.specs.declared.content.Content.{Content}
 use Rattle.suite_prefix.specs.declared.copies.Prefix.{Prefix}
 use Rattle.suite_prefix.specs.declared.lock_mode.LockMode.{LockMode}
-use Rattle.suite_prefix.specs.declared.lock_mode.LockMode.TheVariants.{Shared, Exclusive}
-use Rattle.file_exec.specs.KnownSuites.{KnownSuite}
-use Rattle.file_exec.specs.Known.{Known, IsSoAt, AgreesWith, Heard, Needs, Done, exec_of}
+use Rattle.file_exec.specs.Known.{Known, AgreesWith, Done, exec_of}
 use Rattle.suite_collect.specs.declared.told.Told.{Told}
 use Rattle.suite_collect.specs.declared.told.Said.{Said}
-use Rattle.suite_collect.specs.Collecting.{Collector, raised, tell, tell_at, mode_of, Next, Ask, Current, Short, next, Widening as Wider}
+use Rattle.suite_collect.specs.Collecting.{Collector, tell, tell_at, Next, Ask, Current, Short, next, Widening as Wider}
 use Rattle.file_exec.specs.declared.executor.Outcome.{Outcome as Executed}
 use Rattle.txn_core.specs.Transactions.{Step, changes_of, Gathered, tell_end, give_up, prepare, locked_at, short_cause, gather_by, widen_by, widen_one, widened, widen_all, to_widen, opened, or_all, open_needed, open_suite, open_first}
-use Rattle.txn_core.specs.Transactions.{opened_with, free_content, heard_on, raised_or_new, keep_content, heard_of, said_to, proceed, execute, collected, hear, fetched, prepared, after_response, given_in, lack_cause, verdict_in, ending_by}
-use Rattle.txn_core.specs.Transactions.{cause_of_abort}
+use Rattle.txn_core.specs.Transactions.{opened_with, heard_on, raised_or_new, keep_content, heard_of, said_to, proceed, execute, collected, hear, fetched, prepared, after_response, given_in, lack_cause}
 use Rattle.rep_core.specs.declared.reply.Verdict.TheVariants as verdict
 use Rattle.file_exec.specs.declared.executor.Outcome.TheVariants as exec
 use Rattle.file_exec.specs.Changes as changes
@@ -43,24 +40,8 @@ pub record IsStill (before now : Known) : Type 0 where
   pub agrees : (rows : ℕ → Option Row) → AgreesWith now rows → AgreesWith before rows
   pub knows : (suite : ℕ) → is_some (known.known_of before suite) ≡ true → is_some (known.known_of now suite) ≡ true
 
-pub still_itself : (known : Known) → IsStill known known
-still_itself known = record { agrees = λ rows agrees. agrees; knows = λ suite is. is }
-
-agrees_at : (less more : Option KnownSuite) (row : Option Row) → IsMoreAt less more → IsSoAt more row → IsSoAt less row
-agrees_at None more row goes so = tt
-agrees_at (Some less) None row goes so = absurd (false≢true (sym goes))
-agrees_at (Some less) (Some more) row goes so = record { head = goes.head ∙ so.head; content = λ opened. goes.content opened ∙ so.content (goes.opened opened) }
-
-knows_at : (less more : Option KnownSuite) → IsMoreAt less more → is_some less ≡ true → is_some more ≡ true
-knows_at None more goes is = absurd (false≢true is)
-knows_at (Some less) None goes is = absurd (false≢true (sym goes))
-knows_at (Some less) (Some more) goes is = refl
-
 still_more : (before less more : Known) → MoreKnown less more → IsStill before less → IsStill before more
-still_more before less more goes still = record {
-  agrees = λ rows agrees. still.agrees rows (λ suite. agrees_at (known.known_of less suite) (known.known_of more suite) (rows suite) (goes suite) (agrees suite));
-  knows = λ suite is. knows_at (known.known_of less suite) (known.known_of more suite) (goes suite) (still.knows suite is);
-}
+still_more before less more goes still = search arith
 
 -- On what is known of these suites the executor is done, with this outcome; what it sets it said when it was done first, on what was known then.
 pub record Came (fixed : Fixed) (task : Task) (suites : Suites) (outcome : Proposal) : Type 0 where
@@ -74,66 +55,25 @@ pub record Came (fixed : Fixed) (task : Task) (suites : Suites) (outcome : Propo
   pub set : changes_of outcome ≡ set_by before result
 
 came_more : (fixed : Fixed) (task : Task) (less more : Suites) (outcome : Proposal) → MoreKnown (known_of less) (known_of more) → AreFit more → Came fixed task less outcome → Came fixed task more outcome
-came_more fixed task less more outcome goes fit came = record {
-  fit = fit;
-  result = came.result;
-  is = more_known_changes_nothing fixed.service (known_of less) (known_of more) task.t task.caller task.ops came.result goes came.is;
-  answered = came.answered;
-  before = came.before;
-  still = still_more came.before (known_of less) (known_of more) goes came.still;
-  was = came.was;
-  set = came.set;
-}
+came_more fixed task less more outcome goes fit came = search (more_known_changes_nothing, still_more, arith)
 
 answers_in : List Answer → Executed → List Answer
-answers_in before (exec.Done answers changes) = answers
-answers_in before _ = before
+answers_in h0 h1 = search arith
 
 set_in : Changes → Executed → Changes
-set_in before (exec.Done answers changes) = changes
-set_in before _ = before
+set_in h0 h1 = search arith
 
 refusal_in : Refusal → Executed → Refusal
-refusal_in before (exec.Refused refusal) = refusal
-refusal_in before _ = before
+refusal_in h0 h1 = search arith
 
 came_done : (fixed : Fixed) (task : Task) (suites : Suites) (answers : List Answer) (set : Changes) → AreFit suites → heard_on fixed task suites ≡ exec.Done answers set
     → Came fixed task suites (Ok (record { answers = answers; changes = set }))
 unfolding answers_in set_in
-came_done fixed task suites answers set fit = of (exec_of fixed.service (known_of suites) task.t task.caller task.ops) refl
-  where
-    of : (heard : Heard (List Answer) Refusal) → exec_of fixed.service (known_of suites) task.t task.caller task.ops ≡ heard
-        → changes.answered (known_of suites) heard ≡ exec.Done answers set → Came fixed task suites (Ok (record { answers = answers; changes = set }))
-    of (Needs need) is told = cc
-    of (Done (Ok ended)) is told = record {
-      fit = fit;
-      result = Ok ended;
-      is = is;
-      answered = ap Ok (sym (ap (answers_in answers) told));
-      before = known_of suites;
-      still = still_itself (known_of suites);
-      was = is;
-      set = sym (ap (set_in set) told);
-    }
-    of (Done (Err refusal)) is told = cc
+came_done fixed task suites answers set fit = search arith
 
 came_refused : (fixed : Fixed) (task : Task) (suites : Suites) (why : Refusal) → AreFit suites → heard_on fixed task suites ≡ exec.Refused why → Came fixed task suites (Err why)
 unfolding refusal_in
-came_refused fixed task suites why fit = of (exec_of fixed.service (known_of suites) task.t task.caller task.ops) refl
-  where
-    of : (heard : Heard (List Answer) Refusal) → exec_of fixed.service (known_of suites) task.t task.caller task.ops ≡ heard → changes.answered (known_of suites) heard ≡ exec.Refused why → Came fixed task suites (Err why)
-    of (Needs need) is told = cc
-    of (Done (Ok ended)) is told = cc
-    of (Done (Err refusal)) is told = record {
-      fit = fit;
-      result = Err refusal;
-      is = is;
-      answered = ap Err (sym (ap (refusal_in why) told));
-      before = known_of suites;
-      still = still_itself (known_of suites);
-      was = is;
-      set = refl;
-    }
+came_refused fixed task suites why fit = search arith
 
 -- ---- what a phase keeps
 
@@ -149,15 +89,13 @@ Left fixed (GoesOn txn_run) = Keeps fixed txn_run.task txn_run.suites txn_run.ph
 Left fixed (Ends ending) = Unit {0}
 
 left_end : (fixed : Fixed) (task : Task) (cache : Cache) (suites : Suites) (v : Verdict) (ending : Ending) (servers : List ℕ) → Left fixed (tell_end task cache suites v ending servers).after
-left_end fixed task cache suites v ending [] = tt
-left_end fixed task cache suites v ending (server ∷ servers) = tt
+left_end fixed task cache suites v ending servers = search arith
 
 left_give_up : (fixed : Fixed) (task : Task) (cache : Cache) (suites : Suites) (cause : Cause) → Left fixed (give_up task cache suites cause).after
 left_give_up fixed task cache suites cause = left_end fixed task cache suites verdict.Aborted (Undecided cause) (locked_at suites)
 
 left_prepare : (fixed : Fixed) (task : Task) (cache : Cache) (suites : Suites) (outcome : Proposal) (servers : List ℕ) → Came fixed task suites outcome → Left fixed (prepare task cache suites outcome servers).after
-left_prepare fixed task cache suites outcome [] came = came
-left_prepare fixed task cache suites outcome (server ∷ servers) came = came
+left_prepare fixed task cache suites outcome servers h6 = search arith
 
 -- ---- widening
 
@@ -191,23 +129,12 @@ left_gather : (fixed : Fixed) (task : Task) (cache : Cache) (suites : Suites) (n
 left_gather fixed task cache suites number (Short got needed busy) fit = left_give_up fixed task cache suites (short_cause number got needed busy)
 left_gather fixed task cache suites number _ fit = fit
 
-raised_serves : (widening : Option Wider) (mode before : LockMode) → serves mode before ≡ true → serves (raised widening mode) before ≡ true
-raised_serves (Some wider) mode before is = is
-raised_serves None mode before is = refl
-
-any_serves : (mode : LockMode) → serves mode Shared ≡ true
-any_serves Shared = refl
-any_serves Exclusive = refl
-
 new_mode : (fixed : Fixed) (task : Task) (cache : Cache) (suites : Suites) (number : ℕ) (mode : LockMode) (found : Option GatheredSuite) → suite_of suites number ≡ found → AreFit suites
     → serves (raised_or_new fixed task cache number mode found).collector.mode (raised_or_new fixed task cache number mode found).mode ≡ true
-new_mode fixed task cache suites number mode (Some suite) there fit = raised_serves suite.collector.widening suite.collector.mode suite.mode (fit.modes number suite there)
-new_mode fixed task cache suites number mode None there fit = any_serves mode
+new_mode fixed task cache suites number mode found h7 h8 = search arith
 
 left_proceed : (fixed : Fixed) (task : Task) (cache : Cache) (suites : Suites) (heard : Executed) → heard_on fixed task suites ≡ heard → AreFit suites → Left fixed (proceed fixed task cache suites heard).after
-left_proceed fixed task cache suites (exec.Need (Hold number mode)) is fit =
-    let suite = raised_or_new fixed task cache number mode (suite_of suites number) in
-    left_gather fixed task cache (with_suite number suite suites) number (next suite.collector) (with_fit suites number suite fit (new_mode fixed task cache suites number mode (suite_of suites number) refl fit))
+left_proceed fixed task cache suites (exec.Need (Hold number mode)) is fit = search (left_gather, with_fit, new_mode, arith)
 left_proceed fixed task cache suites (exec.Need (Know number)) is fit = fit
 left_proceed fixed task cache suites (exec.Done answers set) is fit = left_widen fixed task cache (record { answers = answers; changes = set }) (to_widen set) suites fit (came_done fixed task suites answers set fit is)
 left_proceed fixed task cache suites (exec.Refused refusal) is fit = left_prepare fixed task cache suites (Err refusal) (locked_at suites) (came_refused fixed task suites refusal fit is)
@@ -219,24 +146,19 @@ FitIf None = Unit {0}
 
 fit_opened_with : (task : Task) (all : Gathered) (number : ℕ) (suite : GatheredSuite) (first : ReadPoint) (content : Option Content) → suite_of all.suites number ≡ Some suite
     → AreFit all.suites → FitIf (opened_with task all number suite first content)
-fit_opened_with task all number suite first (Some content) there fit = with_fit all.suites number (record suite { content = Some content }) fit (fit.modes number suite there)
-fit_opened_with task all number suite first None there fit = tt
+fit_opened_with task all number suite first content h6 h7 = search (with_fit, arith)
 
 fit_first : (task : Task) (all : Gathered) (number : ℕ) (suite : GatheredSuite) (first : Option ReadPoint) → suite_of all.suites number ≡ Some suite → AreFit all.suites → FitIf (open_first task all number suite first)
-fit_first task all number suite (Some first) there fit = fit_opened_with task all number suite first (free_content task all.cache number first) there fit
-fit_first task all number suite None there fit = tt
+fit_first task all number suite first h5 h6 = search (fit_opened_with, arith)
 
 fit_suite : (task : Task) (all : Gathered) (number : ℕ) (found : Option GatheredSuite) → suite_of all.suites number ≡ found → AreFit all.suites → FitIf (open_suite task all number found)
-fit_suite task all number (Some suite) there fit = fit_first task all number suite suite.first there fit
-fit_suite task all number None there fit = tt
+fit_suite task all number found h4 h5 = search (fit_first, arith)
 
 fit_needed : (task : Task) (all : Gathered) (heard : Executed) → AreFit all.suites → FitIf (open_needed task all heard)
-fit_needed task all (exec.Need (Know number)) fit = fit_suite task all number (suite_of all.suites number) refl fit
-fit_needed task all other fit = tt
+fit_needed task all heard h3 = search (fit_suite, arith)
 
 fit_or : (all : Gathered) (more : Option Gathered) (go_on : Gathered → Gathered) → AreFit all.suites → FitIf more → ((all : Gathered) → AreFit all.suites → AreFit (go_on all).suites) → AreFit (or_all all more go_on).suites
-fit_or all (Some more) go_on fit fits goes = goes more fits
-fit_or all None go_on fit fits goes = fit
+fit_or all more go_on h3 h4 h5 = search arith
 
 fit_opened : (n : ℕ) (fixed : Fixed) (task : Task) (all : Gathered) → AreFit all.suites → AreFit (opened n fixed task all).suites
 fit_opened zero fixed task all fit = fit
@@ -244,9 +166,7 @@ fit_opened (suc n) fixed task all fit =
     fit_or all (open_needed task all (heard_on fixed task all.suites)) _ fit (fit_needed task all (heard_on fixed task all.suites) fit) (λ all fit. fit_opened n fixed task all fit)
 
 pub left_execute : (fixed : Fixed) (task : Task) (all : Gathered) → AreFit all.suites → Left fixed (execute fixed task all).after
-left_execute fixed task all fit =
-    let open' = opened (length all.suites) fixed task all in
-    left_proceed fixed task open'.cache open'.suites (heard_on fixed task open'.suites) refl (fit_opened (length all.suites) fixed task all fit)
+left_execute fixed task all fit = search (left_proceed, fit_opened, arith)
 
 -- ---- a response
 
@@ -255,8 +175,7 @@ abbrev told_of : Told → GatheredSuite → GatheredSuite
 told_of told suite = record suite { collector = tell told suite.collector }
 
 tell_mode : (told : Told) (widening : Option Wider) (c : Collector) → (tell_at widening told c).mode ≡ c.mode
-tell_mode told None c = refl
-tell_mode told (Some wider) c = refl
+tell_mode told widening c = search arith
 
 left_collected : (fixed : Fixed) (task : Task) (cache : Cache) (suites : Suites) (phase : Phase) (number : ℕ) (suite : GatheredSuite) (next : Next) (go_on : GatheredSuite → Step)
     → Keeps fixed task (with_suite number suite suites) phase → ((prefix : Prefix) (dver : ℕ) (members : List ℕ) → Left fixed (go_on (settled prefix dver members suite)).after)
@@ -268,25 +187,18 @@ left_collected fixed task cache suites phase number suite (Current prefix dver m
 left_hear : (fixed : Fixed) (task : Task) (cache : Cache) (suites : Suites) (phase : Phase) (number : ℕ) (suite : GatheredSuite) (server : ℕ) (asked : Request) (heard : Option Said) (go_on : GatheredSuite → Step)
     → ((told : Told) → Keeps fixed task (with_suite number (told_of told suite) suites) phase) → ((told : Told) (prefix : Prefix) (dver : ℕ) (members : List ℕ) → Left fixed (go_on (settled prefix dver members (told_of told suite))).after)
     → Left fixed (hear task cache suites phase number suite server asked heard go_on).after
-left_hear fixed task cache suites phase number suite server asked (Some heard) go_on keeps more =
-    let told : Told = record { server = server; mode = mode_of asked; said = heard } in
-    left_collected fixed task cache suites phase number (told_of told suite) (next (told_of told suite).collector) go_on (keeps told) (more told)
+left_hear fixed task cache suites phase number suite server asked (Some heard) go_on keeps more = search (left_collected, arith)
 left_hear fixed task cache suites phase number suite server asked None go_on keeps more = left_give_up fixed task cache suites (Lost server)
 
 told_mode : (suites : Suites) (number : ℕ) (suite : GatheredSuite) (told : Told) → AreFit suites → suite_of suites number ≡ Some suite → serves (tell told suite.collector).mode suite.mode ≡ true
 told_mode suites number suite told fit there = subst (λ mode. serves mode suite.mode ≡ true) (sym (tell_mode told suite.collector.widening suite.collector)) (fit.modes number suite there)
 
 first_stays : (found : Option ReadPoint) (first new : ReadPoint) → found ≡ Some first → first_or found new ≡ Some first
-first_stays (Some other) first new is = is
-first_stays None first new is = cc
+first_stays found first new h3 = search arith
 
 left_gathering : (fixed : Fixed) (task : Task) (cache : Cache) (suites : Suites) (number : ℕ) (found : Option GatheredSuite) (server : ℕ) (asked : Request) (said : Reply) → suite_of suites number ≡ found → AreFit suites
     → Left fixed (heard_of task cache suites (Gathering number) number found server asked said (λ suites. execute fixed task (record { suites = suites; cache = cache }))).after
-left_gathering fixed task cache suites number (Some suite) server asked said there fit =
-    left_hear fixed task cache suites (Gathering number) number suite server asked (said_to asked said) _
-    (λ told. with_fit suites number (told_of told suite) fit (told_mode suites number suite told fit there))
-    (λ told prefix dver members. left_execute fixed task (record { suites = with_suite number (settled prefix dver members (told_of told suite)) suites; cache = cache })
-    (with_fit suites number (settled prefix dver members (told_of told suite)) fit (serves_itself (tell told suite.collector).mode)))
+left_gathering fixed task cache suites number (Some suite) server asked said there fit = search (left_hear, with_fit, told_mode, left_execute, serves_itself, arith)
 left_gathering fixed task cache suites number None server asked said there fit = left_give_up fixed task cache suites (Lost server)
 
 left_widening : (fixed : Fixed) (task : Task) (cache : Cache) (suites : Suites) (number : ℕ) (left : List ℕ) (granted : Granted) (found : Option GatheredSuite) (server : ℕ)
@@ -323,11 +235,7 @@ left_fetched fixed task cache suites number None server None there fit = left_gi
 
 left_prepared : (fixed : Fixed) (task : Task) (cache : Cache) (suites : Suites) (outcome : Proposal) (server : ℕ) (left : List ℕ) (said : Reply) → Came fixed task suites outcome
     → Left fixed (prepared task cache suites outcome server left said).after
-left_prepared fixed task cache suites outcome server left said came =
-    elim (is_prepared said) as (λ b. Left fixed (cond b (prepare task cache suites outcome left) (give_up task cache suites (Lost server))).after) [
-      | true ↦ left_prepare fixed task cache suites outcome left came
-      | false ↦ left_give_up fixed task cache suites (Lost server)
-    ]
+left_prepared fixed task cache suites outcome server left said came = search (left_prepare fixed task cache suites outcome left came, left_give_up fixed task cache suites (Lost server), arith)
 
 pub left_response : (fixed : Fixed) (task : Task) (cache : Cache) (suites : Suites) (phase : Phase) (server : ℕ) (asked : Request) (response : Response)
     → Keeps fixed task suites phase → Left fixed (after_response fixed (record { task = task; suites = suites; phase = phase }) cache server asked response).after
@@ -339,8 +247,7 @@ left_response fixed task cache suites (Widening [] granted) server asked (Replie
 left_response fixed task cache suites (Widening (number ∷ left) granted) server asked (Replied said) keeps = left_widening fixed task cache suites number left granted (suite_of suites number) server asked said refl keeps.0 keeps.1
 left_response fixed task cache suites (Preparing [] outcome) server asked (Replied said) keeps = left_give_up fixed task cache suites (Lost server)
 left_response fixed task cache suites (Preparing (now ∷ left) outcome) server asked (Replied said) keeps = left_prepared fixed task cache suites outcome server left said keeps
-left_response fixed task cache suites (Deciding outcome) server asked (Replied said) keeps = left_end fixed task cache suites (verdict_in said verdict.Aborted)
-    (ending_by (verdict_in said verdict.Aborted) (cause_of_abort said)) (locked_at suites)
+left_response fixed task cache suites (Deciding outcome) server asked (Replied said) keeps = search (left_end, arith)
 left_response fixed task cache suites (Finishing [] v ending) server asked (Replied said) keeps = tt
 left_response fixed task cache suites (Finishing (now ∷ left) v ending) server asked (Replied said) keeps = left_end fixed task cache suites v ending left
 left_response fixed task cache suites other server asked (Lacked lacked) keeps = left_give_up fixed task cache suites (lack_cause server lacked)

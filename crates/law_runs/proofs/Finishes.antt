@@ -1,9 +1,8 @@
 -- A Finish says how its transaction ended; and whose Finish was served before a transaction was decided, was decided before it.
-use Rattle.law_runs.proofs.Vocabulary.{◌≡◌, ℕ, Bool, true, false, cond, List, [], ◌∷◌, ◌++◌, append_assoc, Option, Some, None, refl, sym, ap, subst, ◌∙◌, arith, ◌==◌, not, Ok, Err, Contains, and_parts, false≢true, nat_tests, none-some, same_Some}
-use Rattle.law_runs.proofs.Vocabulary.{Service, Opening, IsAccepted, Request, Verdict, Stamped, Lock, State, record_of, is_full, answer_of, Has, has_from, contains_from, Ending, Lacked, Suites, suite_of, parts_at, home_of, Fixed, Task, Phase}
-use Rattle.law_runs.proofs.Vocabulary.{Gathering, Fetching, Widening, Preparing, Deciding, Finishing, TransactionRun, SweepRun, Doing, Running, RunningSweep, Sweeping, Telling, request_in, changes_of, decision_of, asked_now, Agent, next_in, next_of}
-use Rattle.law_runs.proofs.Vocabulary.{fixed_of, asks_same, asked_as, fetched_as, Event, Begin, Step, Crash, Return, Forget, Lack, Served, Actor, World, opening, server_at, actor_at, serve, becomes, answered, asks_at, asks, steps_once, lacks_for}
-use Rattle.law_runs.proofs.Vocabulary.{lacks, operated, operates, step, after, dones, run, Decided, decisions, after-append, names, may_sweep, IsDecidedAs}
+use Rattle.law_runs.proofs.Vocabulary.{◌≡◌, ℕ, Bool, true, false, List, [], ◌∷◌, ◌++◌, append_assoc, Option, Some, None, refl, sym, ap, subst, ◌∙◌, arith, ◌==◌, not, Ok, Err, Contains, and_parts, false≢true, nat_tests, none-some, same_Some, Service}
+use Rattle.law_runs.proofs.Vocabulary.{Opening, IsAccepted, Request, Verdict, Lock, State, record_of, Has, has_from, contains_from, Ending, Lacked, Suites, home_of, Fixed, Task, Phase, Finishing, TransactionRun, SweepRun, Doing, Running}
+use Rattle.law_runs.proofs.Vocabulary.{RunningSweep, Sweeping, Telling, request_in, asked_now, Agent, next_in, next_of, fixed_of, Event, Begin, Step, Crash, Return, Forget, Lack, Served, Actor, World, opening, server_at, actor_at, becomes, answered}
+use Rattle.law_runs.proofs.Vocabulary.{asks, steps_once, lacks, operates, step, after, dones, run, Decided, decisions, after-append, names, may_sweep, IsDecidedAs}
 use Rattle.rep_core.specs.Laws.{is_finish}
 use Rattle.law_runs.specs.Finishes.{EndedSo, FinishIsAfter, asks_for_itself, FinishedBefore, FinishedChangesAreMet, SomeRunsFinish}
 use Rattle.rep_core.specs.declared.stamped.Lack.{Lack as Why}
@@ -33,19 +32,7 @@ record Finishes (task : Task) (phase : Phase) (t : ℕ) (v : Verdict) : Type 0 w
   of_it : task.t ≡ t
 
 finishes : (fixed : Fixed) (task : Task) (suites : Suites) (phase : Phase) (server t : ℕ) (v : Verdict) → request_in fixed task suites phase ≡ Some (server, request.Finish t v) → Finishes task phase t v
-finishes fixed task suites (Gathering number) server t v is = absurd (false≢true (sym (asked_as (is_finish t) false task number (suite_of suites number) server (request.Finish t v) (λ mode. refl) refl is) ∙ itself t))
-finishes fixed task suites (Fetching number) server t v is = absurd (false≢true (sym (fetched_as (is_finish t) false task number (suite_of suites number) server (request.Finish t v) refl is) ∙ itself t))
-finishes fixed task suites (Widening (number ∷ left) granted) server t v is = absurd (false≢true (sym (asked_as (is_finish t) false task number (suite_of suites number) server (request.Finish t v) (λ mode. refl) refl is) ∙ itself t))
-finishes fixed task suites (Preparing (now ∷ left) outcome) server t v is =
-    absurd (false≢true (ap (is_finish t) (asks_same now server (request.Prepare task.t (parts_at suites (changes_of outcome) now)) (request.Finish t v) is) ∙ itself t))
-finishes fixed task suites (Deciding outcome) server t v is =
-    absurd (false≢true (ap (is_finish t) (asks_same (home_of fixed.service task.t) server (request.Decide task.t (decision_of task outcome)) (request.Finish t v) is) ∙ itself t))
-finishes fixed task suites (Finishing (now ∷ left) told ending) server t v is =
-    let same = asks_same now server (request.Finish task.t told) (request.Finish t v) is in
-    let of_it : task.t ≡ t = cc in
-    let told_is : told ≡ v = cc in
-    record { servers = now ∷ left; ending = ending; finishing = ap (λ v. Finishing (now ∷ left) v ending) told_is; of_it = of_it }
-finishes fixed task suites other server t v is = cc
+finishes fixed task suites phase server t v h7 = search arith
 
 -- or a sweep, that tells of it
 record TellsOf (now : Sweeping) (t : ℕ) (v : Verdict) : Type 0 where
@@ -53,11 +40,7 @@ record TellsOf (now : Sweeping) (t : ℕ) (v : Verdict) : Type 0 where
   telling : now ≡ Telling t v locks
 
 tells_of : (service : Service) (sweep_run : SweepRun) (now : Sweeping) (t : ℕ) (v : Verdict) → (asked_now service sweep_run now).1 ≡ request.Finish t v → TellsOf now t v
-tells_of service sweep_run (Telling u told locks) t v is =
-    let of_it : u ≡ t = cc in
-    let told_is : told ≡ v = cc in
-    record { locks = locks; telling = λ i. Telling (of_it i) (told_is i) locks }
-tells_of service sweep_run other t v is = absurd cc
+tells_of service sweep_run now t v h5 = search arith
 
 -- ---- it says how its transaction ended
 
@@ -65,8 +48,7 @@ is_decided : (all : List Decided) (t : ℕ) (answer : Answer') → In all t answ
 is_decided all t answer is = record { decision = is.decision; there = contains_from all is.decision is.there; of_it = is.of_it; answered = is.answered }
 
 not_aborted : (answer : Answer') → verdict_as answer ≡ verdict.Aborted → ⊥
-not_aborted (Ok answers) is = cc
-not_aborted (Err refusal) is = cc
+not_aborted answer h1 = search arith
 
 module _ (given : Opening) (accepted : IsAccepted given) (events : List Event) where
   abbrev ds : List Decided
@@ -137,57 +119,21 @@ module _ (fixed : Fixed) (world : World) (what : Served) where
   quiet_none : {A : Type 0} → ◌≡◌ {A = Option Served} None (Some what) → A
   quiet_none is = absurd (none-some what is)
 
-  serves_agent : (number : ℕ) (actor : Actor) (asked : ℕ × Request) (st : State) → actor_at world number ≡ Some actor → next_of fixed actor.agent ≡ Some asked
-      → (answered fixed world number actor st (serve asked.0 st (record { stamp = actor.stamp; value = asked.1 }))).done.served ≡ Some what → IsAsked fixed world what
-  serves_agent number actor asked st there next =
-      elim (is_full st stamped) as (λ b. (answered fixed world number actor st (cond b None (Some served))).done.served ≡ Some what → IsAsked fixed world what) [
-        | true ↦ λ is. quiet_none is
-        | false ↦ λ is. record { number = number; actor = actor; there = there; next = next ∙ ap (λ (what : Served). Some (what.server, what.request.value)) (same_Some served what is) }
-      ]
-    where
-      stamped : Stamped Request
-      stamped = record { stamp = actor.stamp; value = asked.1 }
-
-      served : Served
-      served = record { server = asked.0; request = stamped; reply = answer_of st stamped }
-
   serves_asked : (number : ℕ) (actor : Actor) (asked : Option (ℕ × Request)) → actor_at world number ≡ Some actor → next_of fixed actor.agent ≡ asked → (asks fixed world number actor asked).done.served ≡ Some what → IsAsked fixed world what
-  serves_asked number actor None there next is = quiet_none is
-  serves_asked number actor (Some asked) there next is = at (server_at world asked.0) is
-    where
-      at : (st : Option State) → (asks_at fixed world number actor asked st).done.served ≡ Some what → IsAsked fixed world what
-      at None is = quiet_none is
-      at (Some st) is = serves_agent number actor asked st there next is
+  serves_asked number actor asked h3 h4 h5 = search arith
 
   serves_step : (number : ℕ) (found : Option Actor) → actor_at world number ≡ found → (steps_once fixed world number found).done.served ≡ Some what → IsAsked fixed world what
   serves_step number None there is = quiet_none is
   serves_step number (Some actor) there is = serves_asked number actor (next_of fixed actor.agent) there refl is
 
   serves_operator : (p : Request → Bool) (server : ℕ) (asked : Request) → p asked ≡ false → p what.request.value ≡ true → (found : Option State) → (operates world server asked found).done.served ≡ Some what → IsAsked fixed world what
-  serves_operator p server asked other named None is = quiet_none is
-  serves_operator p server asked other named (Some st) is =
-      elim (is_full st stamped) as (λ b. (operated world st (cond b None (Some served))).done.served ≡ Some what → IsAsked fixed world what) [
-        | true ↦ λ is. quiet_none is
-        | false ↦ λ is. absurd (false≢true (sym other ∙ ap (λ (what : Served). p what.request.value) (same_Some served what is) ∙ named))
-      ] is
-    where
-      stamped : Stamped Request
-      stamped = record { stamp = 0; value = asked }
-
-      served : Served
-      served = record { server = server; request = stamped; reply = answer_of st stamped }
+  serves_operator p server asked h3 h4 found h6 = search arith
 
   changes_none : (number : ℕ) (change : Agent → Agent) (found : Option Actor) → (becomes world number change found).done.served ≡ Some what → IsAsked fixed world what
-  changes_none number change None is = quiet_none is
-  changes_none number change (Some actor) is = quiet_none is
+  changes_none number change found h3 = search arith
 
   lacks_none : (number : ℕ) (why : Why) (found : Option Actor) → (lacks fixed world number (Lacked why) found).done.served ≡ Some what → IsAsked fixed world what
-  lacks_none number why None is = quiet_none is
-  lacks_none number why (Some actor) is = of (next_of fixed actor.agent) is
-    where
-      of : (asked : Option (ℕ × Request)) → (lacks_for fixed world number actor (Lacked why) asked).done.served ≡ Some what → IsAsked fixed world what
-      of None is = quiet_none is
-      of (Some asked) is = quiet_none is
+  lacks_none number why found h3 = search arith
 
   -- a request that no operator makes
   serves : (p : Request → Bool) → p request.Crash ≡ false → p request.Return ≡ false → p what.request.value ≡ true → (event : Event) → (step fixed world event).done.served ≡ Some what → IsAsked fixed world what
@@ -215,22 +161,15 @@ finish_is_after = record { asked = finish_asked; served = finish_served }
 
 -- what two transactions are named in is of one
 one_named : (a b : ℕ) (asked : Request) → names a asked ≡ true → names b asked ≡ true → a ≡ b
-one_named a b request.Locks x y = absurd (false≢true x)
-one_named a b request.Crash x y = absurd (false≢true x)
-one_named a b request.Return x y = absurd (false≢true x)
-one_named a b other x y = grind (arith, nat_tests)
+one_named a b asked h3 h4 = search arith
 
 -- until it tells its end the home has said nothing
 said_nothing : (fixed : Fixed) (task : Task) (suites : Suites) (phase : Phase) (server : ℕ) (asked : Request) (said : Verdict)
     → request_in fixed task suites phase ≡ Some (server, asked) → may_sweep asked ≡ false → Tells said phase → said ≡ verdict.Aborted
-said_nothing fixed task suites (Finishing [] told ending) server asked said is own tells = cc
-said_nothing fixed task suites (Finishing (now ∷ left) told ending) server asked said is own tells =
-    absurd (false≢true (sym own ∙ ap may_sweep (sym (asks_same now server (request.Finish task.t told) asked is))))
-said_nothing fixed task suites other server asked said is own tells = tells
+said_nothing fixed task suites phase server asked said h7 h8 h9 = search arith
 
 not_both : (b : Bool) → not b ≡ true → b ≡ false
-not_both true is = absurd (false≢true is)
-not_both false is = refl
+not_both b h1 = search arith
 
 module _ (given : Opening) (accepted : IsAccepted given) (events : List Event) (number : ℕ) (actor : Actor) (there : actor_at (run given events) number ≡ Some actor)
     (t server : ℕ) (asked : Request) (own : asks_for_itself t asked ≡ true) where
@@ -241,19 +180,12 @@ module _ (given : Opening) (accepted : IsAccepted given) (events : List Event) (
       let same : txn_run.task.t ≡ t = one_named txn_run.task.t t asked (asks_in_its_name (fixed_of given) txn_run.task txn_run.suites txn_run.phase server asked is) parts.0 in
       let nothing = said_nothing (fixed_of given) txn_run.task txn_run.suites txn_run.phase server asked runs.said is (not_both (may_sweep asked) parts.1) runs.tells in
       subst (NotIn (decisions given events)) same (subst (Stands (decisions given events) txn_run.task.t) nothing runs.stands)
-  undecided_in (Some (RunningSweep sweep_run)) running is =
-      let parts = and_parts (names t asked) (not (may_sweep asked)) own in
-      absurd
-      (false≢true (sym (not_both (may_sweep asked) parts.1) ∙ ap may_sweep
-      (sym (ap (λ (asked : ℕ × Request). asked.1) (same_Some (asked_now (fixed_of given).service sweep_run sweep_run.now) (server, asked) is))) ∙ asks_to_sweep
-      (fixed_of given).service sweep_run sweep_run.now))
+  undecided_in (Some (RunningSweep sweep_run)) running is = search (and_parts, false≢true, not_both, same_Some, asks_to_sweep, arith)
   undecided_in None running is = absurd (none-some (server, asked) is)
 
 undecided_yet : (given : Opening) → IsAccepted given → (events : List Event) (event : Event) (what : Served) (t : ℕ)
     → (step (fixed_of given) (run given events) event).done.served ≡ Some what → asks_for_itself t what.request.value ≡ true → NotIn (decisions given events) t
-undecided_yet given accepted events event what t is own =
-    let asked = serves (fixed_of given) (run given events) what (asks_for_itself t) refl refl own event is in
-    undecided_in given accepted events asked.number asked.actor asked.there t what.server what.request.value own asked.actor.agent.doing refl asked.next
+undecided_yet given accepted events event what t is own = search (serves (fixed_of given) (run given events) what (asks_for_itself t) refl refl own event is, undecided_in, arith)
 
 -- ---- in one history
 

@@ -1,5 +1,5 @@
 -- Suites in order, each collected in its mode or a stronger one; and what is known of them grows with them.
-use Rattle.law_runs.proofs.Vocabulary.{◌≡◌, ⊎_elim, ℕ, true, [], Some, sym, ap, subst, ◌∙◌, nat_cmp, none-some, same_Some, serves, MoreKnown, GatheredSuite, Suites, suite_of, with_suite, known_of, GoesOnFrom, more_known}
+use Rattle.law_runs.proofs.Vocabulary.{◌≡◌, ⊎_elim, ℕ, true, [], Some, sym, ap, subst, ◌∙◌, nat_cmp, none-some, same_Some, serves, MoreKnown, GatheredSuite, Suites, suite_of, with_suite, known_of, GoesOnFrom, more_known, arith}
 use Rattle.std.proofs.lemmas.Cmp.{nat_cmp_total}
 use Rattle.sorted_map.specs.SortedMap.{IsOrdered}
 use Rattle.sorted_map.specs.Laws.{IsOrdered-insert}
@@ -10,8 +10,7 @@ use Rattle.law_runs.proofs.Places.{same_or}
 -- more is known once a suite stands in the place of one that it goes on from
 pub more_after : (suites : Suites) (number : ℕ) (before after : GatheredSuite) → IsOrdered nat_cmp suites → suite_of suites number ≡ Some before → GoesOnFrom before after
     → MoreKnown (known_of suites) (known_of (with_suite number after suites))
-more_after suites number before after ordered there goes =
-    more_known suites number after ordered (λ one found. subst (λ (one : GatheredSuite). GoesOnFrom one after) (same_Some before one (sym there ∙ found)) goes)
+more_after suites number before after ordered there goes = search (more_known, same_Some, arith)
 
 -- in order, and each collected in its mode or a stronger one
 pub record AreFit (suites : Suites) : Type 0 where

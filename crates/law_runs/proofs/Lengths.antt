@@ -1,6 +1,6 @@
 -- A world has as many servers and agents as it opened with.
-use Rattle.law_runs.proofs.Vocabulary.{◌≡◌, ℕ, zero, suc, ◌+◌, List, [], ◌∷◌, length, Option, Some, None, refl, ap, ◌∙◌, Opening, Request, served, State, Response, Lacked, Fixed, Agent, begin, fixed_of, forget, next_of, Event, Begin, Step, Crash}
-use Rattle.law_runs.proofs.Vocabulary.{Return, Forget, Lack, Served, after, run, Actor, World, actor_at, actors_from, answered, asks, asks_at, becomes, lacks, lacks_for, opening, operated, operates, serve, server_at, servers_from, step, steps_once}
+use Rattle.law_runs.proofs.Vocabulary.{◌≡◌, ℕ, zero, suc, ◌+◌, List, [], ◌∷◌, length, Option, Some, None, refl, ap, ◌∙◌, Opening, Request, State, Response, Lacked, Fixed, Agent, begin, forget, next_of, Event, Begin, Step, arith, Crash, Return}
+use Rattle.law_runs.proofs.Vocabulary.{Forget, Lack, Served, after, run, Actor, World, actor_at, actors_from, answered, asks, asks_at, becomes, lacks, lacks_for, operated, operates, serve, server_at, servers_from, step, steps_once}
 use Rattle.std.proofs.lemmas.List.{length-set}
 use Rattle.rep_core.specs.declared.request.Request.TheVariants as request
 
@@ -10,12 +10,10 @@ AsMany world new = (length new.servers ≡ length world.servers) × (length new.
 
 module _ (fixed : Fixed) (world : World) where
   many_become : (number : ℕ) (change : Agent → Agent) (found : Option Actor) → AsMany world (becomes world number change found).world
-  many_become number change (Some actor) = (refl, length-set world.agents number _)
-  many_become number change None = (refl, refl)
+  many_become number change found = search (length-set, arith)
 
   many_answered : (number : ℕ) (actor : Actor) (st : State) (what : Option Served) → AsMany world (answered fixed world number actor st what).world
-  many_answered number actor st (Some what) = (length-set world.servers what.server (served st what.request), length-set world.agents number _)
-  many_answered number actor st None = (refl, length-set world.agents number _)
+  many_answered number actor st what = search (length-set, arith)
 
   many_at : (number : ℕ) (actor : Actor) (asked : ℕ × Request) (found : Option State) → AsMany world (asks_at fixed world number actor asked found).world
   many_at number actor asked (Some st) = many_answered number actor st (serve asked.0 st (record { stamp = actor.stamp; value = asked.1 }))
@@ -30,20 +28,17 @@ module _ (fixed : Fixed) (world : World) where
   many_step number None = (refl, refl)
 
   many_lack : (number : ℕ) (actor : Actor) (response : Response) (asked : Option (ℕ × Request)) → AsMany world (lacks_for fixed world number actor response asked).world
-  many_lack number actor response (Some asked) = (refl, length-set world.agents number _)
-  many_lack number actor response None = (refl, refl)
+  many_lack number actor response asked = search (length-set, arith)
 
   many_lacks : (number : ℕ) (response : Response) (found : Option Actor) → AsMany world (lacks fixed world number response found).world
   many_lacks number response (Some actor) = many_lack number actor response (next_of fixed actor.agent)
   many_lacks number response None = (refl, refl)
 
   many_operated : (st : State) (what : Option Served) → AsMany world (operated world st what).world
-  many_operated st (Some what) = (length-set world.servers what.server (served st what.request), refl)
-  many_operated st None = (refl, refl)
+  many_operated st what = search (length-set, arith)
 
   many_operates : (server : ℕ) (asked : Request) (found : Option State) → AsMany world (operates world server asked found).world
-  many_operates server asked (Some st) = many_operated st (serve server st (record { stamp = 0; value = asked }))
-  many_operates server asked None = (refl, refl)
+  many_operates server asked found = search (many_operated, arith)
 
   many_after : (event : Event) → AsMany world (step fixed world event).world
   many_after (Begin number job) = many_become number (λ agent. begin fixed agent job) (actor_at world number)
@@ -69,6 +64,4 @@ so_many_actors start zero = refl
 so_many_actors start (suc count) = ap suc (so_many_actors (start + 1) count)
 
 pub so_many : (given : Opening) (events : List Event) → (length (run given events).servers ≡ given.servers) × (length (run given events).agents ≡ given.agents)
-so_many given events =
-    let all = many_in_all (fixed_of given) (opening given) events in
-    (all.0 ∙ so_many_servers given 0 given.servers, all.1 ∙ so_many_actors 0 given.agents)
+so_many given events = search (many_in_all, so_many_servers, so_many_actors, arith)

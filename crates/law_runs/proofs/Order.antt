@@ -1,5 +1,5 @@
 -- Decisions in their order: what was decided so far stands before what is decided later.
-use Rattle.law_runs.proofs.Vocabulary.{◌≡◌, inl, inr, ⊎_elim, ℕ, false, List, [], ◌∷◌, ◌++◌, refl, sym, ap, ◌∙◌, nat_eq, map, AllByRecursion, ne_eqb, IsDistinct-cons, Has, Decided}
+use Rattle.law_runs.proofs.Vocabulary.{◌≡◌, inl, inr, ℕ, false, List, [], ◌∷◌, ◌++◌, refl, sym, ap, nat_eq, map, AllByRecursion, ne_eqb, IsDistinct-cons, Has, Decided, arith}
 use Rattle.std.specs.List.{IsDistinct}
 use Rattle.law_runs.proofs.Standing.{NotIn}
 use Rattle.law_runs.proofs.Worlds.{AreApart}
@@ -24,20 +24,12 @@ same_tail d e ds es same = ap tail_of same
 pub stands_first : (ds more before after : List Decided) (first second : Decided) → Has ds first → NotIn ds second.t → ds ++ more ≡ before ++ second ∷ after → Has before first
 stands_first [] more before after first second has new same = absurd has
 stands_first (d ∷ ds) more [] after first second has new same = absurd (new d (inl refl) (ap (λ (d : Decided). d.t) (same_head d second (ds ++ more) after same)))
-stands_first (d ∷ ds) more (e ∷ before) after first second has new same =
-    ⊎_elim
-    (λ is. inl (sym (same_head d e (ds ++ more) (before ++ second ∷ after) same) ∙ is))
-    (λ rest. inr (stands_first ds more before after first second rest (λ f has. new f (inr has)) (same_tail d e (ds ++ more) (before ++ second ∷ after) same)))
-    has
+stands_first (d ∷ ds) more (e ∷ before) after first second has new same = search (same_head, same_tail, stands_first ds more before after first second, arith)
 
 -- the same number, the same decision
 pub same_decision : (ds : List Decided) (d e : Decided) → AreApart ds → Has ds d → Has ds e → d.t ≡ e.t → d ≡ e
 same_decision [] d e apart has has' same = absurd has
-same_decision (f ∷ ds) d e apart has has' same =
-    ⊎_elim
-    (λ is. ⊎_elim (λ is'. sym is ∙ is') (λ rest. absurd (apart.0 e rest (sym same ∙ sym (ap (λ (d : Decided). d.t) is)))) has')
-    (λ rest. ⊎_elim (λ is'. absurd (apart.0 d rest (same ∙ sym (ap (λ (d : Decided). d.t) is')))) (λ rest'. same_decision ds d e apart.1 rest rest' same) has')
-    has
+same_decision (f ∷ ds) d e apart has has' same = search (same_decision ds d e, arith)
 
 -- ---- no number stands twice
 

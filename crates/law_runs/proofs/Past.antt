@@ -2,7 +2,7 @@
 use Rattle.law_runs.proofs.Vocabulary.{◌≡◌, ⊎_elim, ℕ, ◌+◌, ◌≤◌, ◌<◌, List, ◌++◌, Option, Some, None, sym, ap, subst, ◌∙◌, arith, ◌*◌, same_Some, Has, Agent, Decided, EndedJob}
 use Rattle.law_runs.proofs.Standing.{NotIn, has_append}
 use Rattle.law_runs.proofs.Places.{Puts, same_or}
-use Rattle.law_runs.proofs.Agents.{same_place, AreOf, EndStands, EndsAt, end_more, AreAt}
+use Rattle.law_runs.proofs.Agents.{AreOf, EndStands, EndsAt, end_more, AreAt}
 
 -- the job is over: its agent began more since, or is idle; and its ending stands among the decisions
 pub record IsOver (h : ℕ → Option Agent) (ds : List Decided) (outcome : EndedJob) : Type 0 where
@@ -19,31 +19,10 @@ module _ (h g : ℕ → Option Agent) (i : ℕ) (old new : Agent) (ds more : Lis
     (rests : new.count ≡ old.count → old.doing ≡ None → new.doing ≡ None) (of : AreOf old i more) (holds : AreAt h ds) where
   -- what is decided now is of no job that is over
   apart_over : (outcome : EndedJob) → IsOver h ds outcome → NotIn more (64 * outcome.count + outcome.agent)
-  apart_over outcome over d has same =
-      let is = of d has in
-      let places = same_place is.place outcome.count i outcome.agent (sym is.numbered ∙ same) (holds.small i old puts.was) (holds.small outcome.agent over.agent over.at) in
-      let agents : old ≡ over.agent = same_Some old over.agent (sym puts.was ∙ ap h places.1 ∙ over.at) in
-      is.busy (ap (λ (agent : Agent). agent.doing) agents ∙ over.idle (ap (λ n. n + 1) (sym places.0) ∙ is.last ∙ ap (λ (agent : Agent). agent.count) agents))
+  apart_over outcome over d has same = search arith
 
   over_old : (outcome : EndedJob) → IsOver h ds outcome → IsOver g (ds ++ more) outcome
-  over_old outcome over =
-      let stands : EndStands (ds ++ more) (64 * outcome.count + outcome.agent) outcome.ending = end_more ds more (64 * outcome.count + outcome.agent) outcome.ending (apart_over outcome over) over.stands in
-      ⊎_elim
-      (λ at.
-      let agents : old ≡ over.agent = same_Some old over.agent (sym puts.was ∙ ap h (sym at) ∙ over.at) in
-      let same : old.count ≡ over.agent.count = ap (λ (agent : Agent). agent.count) agents in
-      let before = over.before in
-      record {
-        agent = new;
-        at = ap g at ∙ puts.here;
-        before = omega (arith, same, before, counts);
-        idle = λ now.
-            let unchanged : new.count ≡ old.count = omega (arith, same, before, counts, now) in
-            rests unchanged (ap (λ (agent : Agent). agent.doing) agents ∙ over.idle (now ∙ unchanged ∙ same));
-        stands = stands;
-      })
-      (λ apart. record { agent = over.agent; at = puts.apart outcome.agent apart ∙ over.at; before = over.before; idle = over.idle; stands = stands })
-      (same_or outcome.agent i)
+  over_old outcome over = search (end_more, apart_over, same_Some, same_or, arith)
 
   pub over_put : (past : List EndedJob) → AreOver h ds past → AreOver g (ds ++ more) past
   over_put past all outcome has = over_old outcome (all outcome has)

@@ -1,17 +1,15 @@
 -- What a sweep tells of a transaction is its home's record: event by event.
-use Rattle.law_runs.proofs.Vocabulary.{◌≡◌, ⊎_elim, ℕ, ◌+◌, Bool, true, false, cond, List, [], ◌∷◌, Option, Some, None, refl, sym, ap, subst, ◌∙◌, ◌==◌, ◌&&◌, nat_lt, slice_get, slice_set, none-some, same_Some, Opening, Lock, Request, Reply, Verdict}
-use Rattle.law_runs.proofs.Vocabulary.{Stamped, State, record_of, reply_of, is_full, served, answer_of, resolve_ruled, Job, Transaction, Sweep, Response, Replied, Lacked, home_of, Fixed, TransactionRun, SweepRun, Doing, Running, RunningSweep, After}
-use Rattle.law_runs.proofs.Vocabulary.{GoesOn, Ends, Sweeping, Listing, Resolving, Telling, Breaking, Agent, next_in, next_of, left, take_in, take, begin, started, forget, fixed_of, is_idle, has_sense, max_jobs, Event, Begin, Step, Crash, Return}
-use Rattle.law_runs.proofs.Vocabulary.{Forget, Lack, Served, Actor, World, server_at, actor_at, with_actor, opening, serve, after_serving, moved, becomes, lacked, answered, asks_at, asks, steps_once, lacks_for, lacks, operated, operates, step, after}
-use Rattle.law_runs.proofs.Vocabulary.{run}
-use Rattle.rep_core.specs.Locks.{has_prepared}
+use Rattle.law_runs.proofs.Vocabulary.{◌≡◌, ⊎_elim, ℕ, Bool, true, false, cond, List, [], ◌∷◌, Option, Some, None, refl, sym, ap, subst, ◌∙◌, slice_get, slice_set, Opening, Lock, Request, arith, Reply, Verdict, Stamped, State, record_of, reply_of}
+use Rattle.law_runs.proofs.Vocabulary.{is_full, served, answer_of, resolve_ruled, Job, Response, Replied, Lacked, home_of, Fixed, SweepRun, Doing, Running, RunningSweep, Sweeping, Telling, Agent, next_in, next_of, left, take_in, take, begin, forget}
+use Rattle.law_runs.proofs.Vocabulary.{fixed_of, Event, Begin, Step, Crash, Return, Forget, Lack, Served, Actor, World, server_at, actor_at, with_actor, opening, serve, after_serving, moved, becomes, lacked, answered, asks_at, asks, steps_once}
+use Rattle.law_runs.proofs.Vocabulary.{lacks_for, lacks, operated, operates, step, after, run}
 use Rattle.rep_core.specs.declared.stamped.Lack.{Lack as Why}
 use Rattle.rep_core.specs.Service.{after as after_request}
 use Rattle.rep_core.specs.declared.request.Request.TheVariants as request
 use Rattle.rep_core.specs.declared.reply.Reply.TheVariants as reply
 use Rattle.rep_core.specs.declared.stamped.Lack.TheVariants as lack
 use Rattle.txn_core.specs.Sweeps as sweep
-use Rattle.law_runs.proofs.Places.{Puts, at_puts, same_or}
+use Rattle.law_runs.proofs.Places.{Puts, at_puts}
 use Rattle.law_runs.proofs.Turns.{stays_served}
 use Rattle.law_runs.proofs.Worlds.{agent_of, agent_at, puts_in, puts_agent}
 use Rattle.law_runs.proofs.Conclusions.{fresh_agents}
@@ -28,15 +26,7 @@ abbrev pub RulesStay : Fixed → (ℕ → Option State) → (ℕ → Option Stat
 RulesStay fixed f g = (t : ℕ) (v : Verdict) → Ruled fixed f t v → Ruled fixed g t v
 
 rules_put : (fixed : Fixed) (f g : ℕ → Option State) (s : ℕ) (st new : State) → Puts f g s st new → ((t : ℕ) (v : Verdict) → record_of st t ≡ Some v → record_of new t ≡ Some v) → RulesStay fixed f g
-rules_put fixed f g s st new puts stays t v old =
-    ⊎_elim
-    (λ at. record {
-      st = new;
-      at = ap g at ∙ puts.here;
-      is = stays t v (ap (λ (st : State). record_of st t) (same_Some st old.st (sym puts.was ∙ ap f (sym at) ∙ old.at)) ∙ old.is);
-    })
-    (λ apart. record { st = old.st; at = puts.apart (home_of fixed.service t) apart ∙ old.at; is = old.is })
-    (same_or (home_of fixed.service t) s)
+rules_put fixed f g s st new puts stays t v old = search arith
 
 -- ---- what an agent tells
 
@@ -49,14 +39,8 @@ TellsRules fixed f (Some (RunningSweep sweep_run)) = IsTold fixed f sweep_run.no
 TellsRules fixed f (Some (Running txn_run)) = Unit {0}
 TellsRules fixed f None = Unit {0}
 
-told_later : (fixed : Fixed) (f g : ℕ → Option State) (now : Sweeping) → RulesStay fixed f g → IsTold fixed f now → IsTold fixed g now
-told_later fixed f g (Telling t v locks) stay is = stay t v is
-told_later fixed f g other stay is = tt
-
 rules_later : (fixed : Fixed) (f g : ℕ → Option State) (doing : Option Doing) → RulesStay fixed f g → TellsRules fixed f doing → TellsRules fixed g doing
-rules_later fixed f g (Some (RunningSweep sweep_run)) stay is = told_later fixed f g sweep_run.now stay is
-rules_later fixed f g (Some (Running txn_run)) stay is = tt
-rules_later fixed f g None stay is = tt
+rules_later fixed f g doing h4 h5 = search arith
 
 -- ---- an agent takes a response
 
@@ -65,48 +49,23 @@ abbrev Answers : Fixed → (ℕ → Option State) → ℕ × Request → Respons
 Answers fixed g asked response = (t : ℕ) (v : Verdict) → asked ≡ (home_of fixed.service t, request.Resolve t) → response ≡ Replied (reply.Verdict v) → Ruled fixed g t v
 
 module _ (fixed : Fixed) (g : ℕ → Option State) where
-  course_left : (after : After TransactionRun) → TellsRules fixed g (left Running after)
-  course_left (GoesOn txn_run) = tt
-  course_left (Ends ending) = tt
 
   swept_on : (sweep_run : SweepRun) (locks : List Lock) → TellsRules fixed g (left RunningSweep (sweep.sweep_on sweep_run locks))
-  swept_on sweep_run [] = tt
-  swept_on sweep_run (lock ∷ locks) =
-      elim (has_prepared lock.t (lock ∷ locks)) as (λ b. IsTold fixed g (cond b (Resolving lock.t (sweep.others lock.t locks)) (Breaking lock locks))) [ true ↦ tt | false ↦ tt ]
+  swept_on sweep_run locks = search arith
 
   swept_home : (sweep_run more : SweepRun) (locks : List Lock) (b : Bool) → TellsRules fixed g (left RunningSweep (cond b (sweep.lost sweep_run) (sweep.sweep_on more locks)))
-  swept_home sweep_run more locks true = tt
-  swept_home sweep_run more locks false = swept_on more locks
+  swept_home sweep_run more locks b = search arith
 
   swept_answer : (sweep_run : SweepRun) (now : Sweeping) (said : Reply) → Answers fixed g (sweep.asked_now fixed.service sweep_run now) (Replied said)
       → TellsRules fixed g (left RunningSweep (sweep.after_answer fixed.service sweep_run now said))
-  swept_answer sweep_run Listing (reply.Locked locks) answers = swept_on sweep_run (sweep.rising locks)
-  swept_answer sweep_run Listing other answers = tt
-  swept_answer sweep_run (Resolving t locks) (reply.Verdict v) answers = answers t v refl refl
-  swept_answer sweep_run (Resolving t locks) other answers = swept_home sweep_run (record sweep_run { left = sweep_run.left + 1 }) locks (home_of fixed.service t == sweep_run.server)
-  swept_answer sweep_run (Telling t v locks) reply.Done answers = swept_on (record sweep_run { finished = sweep_run.finished + 1 }) locks
-  swept_answer sweep_run (Telling t v locks) other answers = tt
-  swept_answer sweep_run (Breaking lock locks) reply.Done answers = swept_on (record sweep_run { broken = sweep_run.broken + 1 }) locks
-  swept_answer sweep_run (Breaking lock locks) other answers = tt
+  swept_answer sweep_run now said h3 = search arith
 
   take_told : (agent : Agent) (response : Response) (doing : Option Doing) (asked : ℕ × Request) → next_in fixed doing ≡ Some asked → Answers fixed g asked response
       → TellsRules fixed g (take_in fixed agent response doing (Some asked)).agent.doing
-  take_told agent response (Some (Running txn_run)) asked is answers = course_left _
-  take_told agent (Replied said) (Some (RunningSweep sweep_run)) asked is answers =
-      swept_answer sweep_run sweep_run.now said (subst (λ asked. Answers fixed g asked (Replied said)) (sym (same_Some (sweep.asked_now fixed.service sweep_run sweep_run.now) asked is)) answers)
-  take_told agent (Lacked why) (Some (RunningSweep sweep_run)) asked is answers = tt
-  take_told agent response None asked is answers = absurd (none-some asked is)
-
-  started_told : (agent : Agent) (job : Job) → TellsRules fixed g (started fixed agent job).doing
-  started_told agent (Transaction caller site ops) = course_left _
-  started_told agent (Sweep server) = tt
+  take_told agent response doing asked h4 h5 = search arith
 
   begin_told : (agent : Agent) (job : Job) → TellsRules fixed g agent.doing → TellsRules fixed g (begin fixed agent job).doing
-  begin_told agent job told =
-      elim (is_idle agent.doing && has_sense fixed job && nat_lt agent.count max_jobs) as (λ b. TellsRules fixed g (cond b (record (started fixed agent job) { count = agent.count + 1 }) agent).doing) [
-        | true ↦ started_told agent job
-        | false ↦ told
-      ]
+  begin_told agent job told = search arith
 
 -- ---- every event
 

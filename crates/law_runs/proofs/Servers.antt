@@ -1,6 +1,6 @@
 -- What servers have recorded of the decisions so far, and what a served request adds.
-use Rattle.law_runs.proofs.Vocabulary.{◌≡◌, ◌≢◌, ◌⊎◌, ⊎_elim, ℕ, true, false, cond, List, [], ◌∷◌, ◌++◌, append_assoc, Option, Some, None, refl, sym, ap, subst, ◌∙◌, arith, ◌==◌, nat_tests, same_Some, Verdict, State, record_of, Has, Fixed, home_of}
-use Rattle.law_runs.proofs.Vocabulary.{Decided, denials_of, denials_at}
+use Rattle.law_runs.proofs.Vocabulary.{◌≡◌, ◌≢◌, ◌⊎◌, ⊎_elim, ℕ, true, false, cond, List, [], ◌∷◌, ◌++◌, Option, Some, None, refl, sym, ap, subst, ◌∙◌, arith, ◌==◌, nat_tests, same_Some, Verdict, State, record_of, Has, Fixed, home_of, Decided}
+use Rattle.law_runs.proofs.Vocabulary.{denials_of, denials_at}
 use Rattle.rep_core.specs.declared.reply.Verdict.TheVariants as verdict
 use Rattle.law_runs.proofs.Standing.{Recorded, recorded_more, recorded_last, verdict_as, has_append}
 use Rattle.law_runs.proofs.Places.{Puts, at_puts, same_or}
@@ -9,9 +9,7 @@ use Rattle.law_runs.proofs.Places.{Puts, at_puts, same_or}
 
 pub denials_more : (fixed : Fixed) (s : ℕ) (ds more : List Decided) → denials_at fixed.service s (ds ++ more) ≡ denials_at fixed.service s ds ++ denials_at fixed.service s more
 denials_more fixed s [] more = refl
-denials_more fixed s (d ∷ ds) more =
-    ap (λ rest. cond (home_of fixed.service d.t == s) (denials_of d) [] ++ rest) (denials_more fixed s ds more)
-    ∙ sym (append_assoc (cond (home_of fixed.service d.t == s) (denials_of d) []) (denials_at fixed.service s ds) (denials_at fixed.service s more))
+denials_more fixed s (d ∷ ds) more = search (denials_more fixed s ds more, arith)
 
 pub append_none : {X : Type 0} (xs : List X) → xs ++ [] ≡ xs
 append_none [] = refl
@@ -62,39 +60,14 @@ module _ (fixed : Fixed) (f g : ℕ → Option State) (s : ℕ) (st new : State)
     (stays : (t : ℕ) (v : Verdict) → record_of st t ≡ Some v → record_of new t ≡ Some v) (holds : AreKept fixed f ds) where
   -- what was kept
   kept_old : (d : Decided) → Has ds d → Kept fixed g d
-  kept_old d has =
-      let old = holds.kept d has in
-      ⊎_elim
-      (λ at. record {
-        st = new;
-        at = ap g at ∙ puts.here;
-        is = stays d.t (verdict_as d.answer) (ap (λ (st : State). record_of st d.t) (same_Some st old.st (sym puts.was ∙ ap f (sym at) ∙ old.at)) ∙ old.is);
-      })
-      (λ apart. record { st = old.st; at = puts.apart (home_of fixed.service d.t) apart ∙ old.at; is = old.is })
-      (same_or (home_of fixed.service d.t) s)
+  kept_old d has = search arith
 
   pub kept_quietly : (more : List Decided) → Quiet st new more → AreKept fixed g (ds ++ more)
-  kept_quietly more quiet = subst (λ more. AreKept fixed g (ds ++ more)) (sym quiet.none) (subst (AreKept fixed g) (sym (append_none ds)) (record {
-    kept = kept_old;
-    recorded = λ at st' t v is has. ⊎_elim
-        (λ here. ⊎_elim
-        (λ old. holds.recorded s st t v puts.was old)
-        (λ aborted. subst (Recorded ds t) (sym aborted) tt)
-        (quiet.old t v (ap (λ (st : State). record_of st t) (sym here.is) ∙ has)))
-        (λ there. holds.recorded at st' t v there.was has)
-        (at_puts f g s st new puts at st' is);
-    audited = λ at st' is. ⊎_elim
-        (λ here. ap (λ (st : State). st.audit) here.is ∙ quiet.audit ∙ holds.audited s st puts.was ∙ ap (λ s. denials_at fixed.service s ds) (sym here.at))
-        (λ there. holds.audited at st' there.was)
-        (at_puts f g s st new puts at st' is);
-  }))
+  kept_quietly more quiet = search (append_none, kept_old, at_puts, arith)
 
   pub kept_deciding : (more : List Decided) → Deciding fixed s st new more → AreKept fixed g (ds ++ more)
   kept_deciding more does = subst (λ more. AreKept fixed g (ds ++ more)) (sym does.one) (record {
-    kept = λ d has. ⊎_elim
-        (λ old. kept_old d old)
-        (λ last. ⊎_elim (λ is. subst (Kept fixed g) is (record { st = new; at = ap g does.home ∙ puts.here; is = does.here })) (λ none. absurd none) last)
-        (has_append ds (does.decision ∷ []) d has);
+    kept = search (kept_old, has_append, arith);
     recorded = λ at st' t v is has. ⊎_elim
         (λ here. ⊎_elim
         (λ same. subst (λ t. Recorded (ds ++ does.decision ∷ []) t v) (sym same) (subst (Recorded (ds ++ does.decision ∷ []) does.decision.t)
@@ -104,18 +77,7 @@ module _ (fixed : Fixed) (f g : ℕ → Option State) (s : ℕ) (st new : State)
         (same_or t does.decision.t))
         (λ there. recorded_more ds (does.decision ∷ []) t v (holds.recorded at st' t v there.was has))
         (at_puts f g s st new puts at st' is);
-    audited = λ at st' is. ⊎_elim
-        (λ here.
-        ap (λ (st : State). st.audit) here.is ∙ does.audit ∙ ap (λ audit. audit ++ denials_of does.decision) (holds.audited s st puts.was)
-        ∙ ap (λ more. denials_at fixed.service s ds ++ more) (sym (denials_here fixed s does.decision does.home))
-        ∙ sym (denials_more fixed s ds (does.decision ∷ []))
-        ∙ ap (λ s. denials_at fixed.service s (ds ++ does.decision ∷ [])) (sym here.at))
-        (λ there.
-        holds.audited at st' there.was
-        ∙ sym (append_none (denials_at fixed.service at ds))
-        ∙ ap (λ more. denials_at fixed.service at ds ++ more) (sym (denials_there fixed at does.decision (λ same. there.apart (sym same ∙ does.home))))
-        ∙ sym (denials_more fixed at ds (does.decision ∷ [])))
-        (at_puts f g s st new puts at st' is);
+    audited = search (denials_here, denials_more, append_none, denials_there, at_puts, arith);
   })
 
 -- where no server changes

@@ -1,5 +1,5 @@
 -- What stands among decisions, and what stays so when more are made.
-use Rattle.law_runs.proofs.Vocabulary.{◌≡◌, ◌⊎◌, inl, inr, ℕ, List, [], ◌∷◌, ◌++◌, refl, Result, Ok, Err, Has, Verdict, Answer, Refusal, Decided}
+use Rattle.law_runs.proofs.Vocabulary.{◌≡◌, ◌⊎◌, inl, inr, ℕ, List, [], ◌∷◌, ◌++◌, Result, Ok, Err, Has, Verdict, Answer, Refusal, Decided, arith}
 use Rattle.rep_core.specs.declared.reply.Verdict.TheVariants as verdict
 
 -- ---- members of two lists
@@ -55,14 +55,10 @@ pub none_in : (t : ℕ) → NotIn [] t
 none_in t d has same = has
 
 pub stands_more : (ds more : List Decided) (t : ℕ) (v : Verdict) → NotIn more t → Stands ds t v → Stands (ds ++ more) t v
-stands_more ds more t (verdict.Answered answers) new is = in_more ds more t (Ok answers) is
-stands_more ds more t (verdict.Refused refusal) new is = in_more ds more t (Err refusal) is
-stands_more ds more t verdict.Aborted new is = not_in_more ds more t is new
+stands_more ds more t v h4 h5 = search (in_more, not_in_more, arith)
 
 pub recorded_more : (ds more : List Decided) (t : ℕ) (v : Verdict) → Recorded ds t v → Recorded (ds ++ more) t v
-recorded_more ds more t (verdict.Answered answers) is = in_more ds more t (Ok answers) is
-recorded_more ds more t (verdict.Refused refusal) is = in_more ds more t (Err refusal) is
-recorded_more ds more t verdict.Aborted is = tt
+recorded_more ds more t v h4 = search (in_more, arith)
 
 -- the verdict of an answer
 abbrev pub verdict_as : Answer' → Verdict
@@ -71,8 +67,7 @@ verdict_as (Err refusal) = verdict.Refused refusal
 
 -- what was just decided stands
 pub stands_last : (ds : List Decided) (d : Decided) (answer : Answer') → d.answer ≡ answer → Stands (ds ++ d ∷ []) d.t (verdict_as answer)
-stands_last ds d (Ok answers) same = record { decision = d; there = append_has_right ds (d ∷ []) d (inl refl); of_it = refl; answered = same }
-stands_last ds d (Err refusal) same = record { decision = d; there = append_has_right ds (d ∷ []) d (inl refl); of_it = refl; answered = same }
+stands_last ds d answer h3 = search (append_has_right, arith)
 
 pub recorded_last : (ds : List Decided) (d : Decided) (answer : Answer') → d.answer ≡ answer → Recorded (ds ++ d ∷ []) d.t (verdict_as answer)
 recorded_last ds d (Ok answers) same = stands_last ds d (Ok answers) same
@@ -80,5 +75,4 @@ recorded_last ds d (Err refusal) same = stands_last ds d (Err refusal) same
 
 -- where a record stands beside "not decided so far", it is Aborted; and any other stands
 pub stands_if : (ds : List Decided) (t : ℕ) (v : Verdict) → Recorded ds t v → NotIn ds t → Stands ds t v
-stands_if ds t verdict.Aborted is none = none
-stands_if ds t _ is none = is
+stands_if ds t v h3 h4 = search arith

@@ -1,7 +1,7 @@
 -- Where agents know the table, every run is answered as the table answers it.
-use Rattle.law_runs.proofs.Vocabulary.{◌≡◌, List, [], ◌∷◌, ◌++◌, append_assoc, Option, Some, None, refl, sym, ap, subst, ◌∙◌, option_to_list, Result, Ok, Err, cons_option, Opening, Refusal, PlainTable, Played, transaction, replies, table_after}
-use Rattle.law_runs.proofs.Vocabulary.{fixed_of, Event, opening, step, run, Decided, decided, decisions, decisions_from, played_on, table_with, table_after_all, table_of, AnswersAreTheTables, after-append, decisions_from-append, denied_in}
-use Rattle.law_runs.proofs.Vocabulary.{denials_of, KnowsTheTable, KnownAnswersAreTheTables, all_denials, TablesAuditIsTheDenials}
+use Rattle.law_runs.proofs.Vocabulary.{◌≡◌, List, [], ◌∷◌, ◌++◌, append_assoc, Option, Some, refl, sym, ap, subst, ◌∙◌, option_to_list, Result, cons_option, Opening, Refusal, PlainTable, Played, transaction, replies, arith, table_after, fixed_of}
+use Rattle.law_runs.proofs.Vocabulary.{Event, opening, step, run, Decided, decided, decisions, decisions_from, played_on, table_with, table_after_all, table_of, AnswersAreTheTables, after-append, decisions_from-append, denials_of, KnowsTheTable}
+use Rattle.law_runs.proofs.Vocabulary.{KnownAnswersAreTheTables, all_denials, TablesAuditIsTheDenials}
 use Rattle.file_ops.specs.Rows as rows
 use Rattle.law_runs.proofs.Servers.{append_none}
 use Rattle.law_runs.proofs.Answering.{answers_follow_knowledge}
@@ -18,20 +18,16 @@ service_stays table [] = refl
 service_stays table (one ∷ ds) = service_stays (table_with table one) ds ∙ of (played_on table one)
   where
     of : (outcome : Result Played Refusal) → (table_after table one.t one.caller outcome).service ≡ table.service
-    of (Ok played) = refl
-    of (Err refusal) = refl
+    of outcome = search arith
 
 pub run_one : (given : Opening) (events : List Event) (event : Event) → run given (events ++ event ∷ []) ≡ (step (fixed_of given) (run given events) event).world
 run_one given events event = after-append (fixed_of given) (opening given) events (event ∷ [])
 
 cons_none : (one : Option Decided) → cons_option one [] ≡ option_to_list one
-cons_none None = refl
-cons_none (Some d) = refl
+cons_none one = search arith
 
 pub table_one : (given : Opening) (events : List Event) (event : Event) → table_of given (events ++ event ∷ []) ≡ table_after_all (table_of given events) (option_to_list (decided (fixed_of given) (run given events) event))
-table_one given events event =
-    ap (table_after_all (rows.opening given)) (decisions_from-append (fixed_of given) (opening given) events (event ∷ []) ∙ ap (λ more. decisions given events ++ more) (cons_none (decided (fixed_of given) (run given events) event)))
-    ∙ table_more (rows.opening given) (decisions given events) (option_to_list (decided (fixed_of given) (run given events) event))
+table_one given events event = search (decisions_from-append, cons_none, table_more, option_to_list, arith)
 
 pub one_more : (events : List Event) (event : Event) (later : List Event) → (events ++ event ∷ []) ++ later ≡ events ++ event ∷ later
 one_more events event later = append_assoc events (event ∷ []) later
@@ -60,8 +56,7 @@ answers_from given knows (event ∷ later) events =
     of : (one : Option Decided) → decided (fixed_of given) (run given events) event ≡ one → AnswersAreTheTables
         (table_after_all (table_of given events) (option_to_list (decided (fixed_of given) (run given events) event))) rest
         → AnswersAreTheTables (table_of given events) (cons_option one rest)
-    of None is answers = subst (λ one. AnswersAreTheTables (table_after_all (table_of given events) (option_to_list one)) rest) is answers
-    of (Some one) is answers = (answered_so given events event one knows is, subst (λ one. AnswersAreTheTables (table_after_all (table_of given events) (option_to_list one)) rest) is answers)
+    of one h1 h2 = search (option_to_list, rest, answered_so, arith)
 
 pub known_answers : KnownAnswersAreTheTables
 known_answers given knows events = answers_from given knows events []
@@ -69,11 +64,7 @@ known_answers given knows events = answers_from given knows events []
 -- ---- the audit
 
 denied_by : (table : PlainTable) (one : Decided) → one.answer ≡ replies (played_on table one) → (table_with table one).audit ≡ table.audit ++ denials_of one
-denied_by table one same = of (played_on table one) ∙ ap (λ answer. table.audit ++ denied_in one.t one.caller answer) (sym same)
-  where
-    of : (outcome : Result Played Refusal) → (table_after table one.t one.caller outcome).audit ≡ table.audit ++ denied_in one.t one.caller (replies outcome)
-    of (Ok played) = sym (append_none table.audit)
-    of (Err refusal) = refl
+denied_by table one same = search (append_none, arith)
 
 audit_after : (table : PlainTable) (ds : List Decided) → AnswersAreTheTables table ds → (table_after_all table ds).audit ≡ table.audit ++ all_denials ds
 audit_after table [] answers = sym (append_none table.audit)

@@ -1,21 +1,18 @@
 -- A request that an agent's transaction makes of a server: what it decides, and what it says.
-use Rattle.law_runs.proofs.Vocabulary.{◌≡◌, ◌⊎◌, inl, inr, ⊎_elim, ℕ, Bool, true, false, cond, List, [], ◌∷◌, ◌++◌, Option, Some, None, refl, sym, ap, subst, ◌∙◌, is_some, option_to_list, Ok, Err, false≢true, same_Some, Refusal, denials, Request}
-use Rattle.law_runs.proofs.Vocabulary.{Reply, Verdict, Stamped, State, record_of, reply_of, after_record, recorded, verdict_of, audit_of, denial_of, with_item, is_full, served, record_here, record_apart, record_step, recording, Replied, Fixed, Task}
-use Rattle.law_runs.proofs.Vocabulary.{Phase, Deciding, Proposal, home_of, decision_of, is_decide, said_by, Agent, Decided, to_decide, answer_in, decided_as, decided_at}
+use Rattle.law_runs.proofs.Vocabulary.{◌≡◌, ◌⊎◌, inl, inr, ℕ, Bool, false, cond, List, [], ◌∷◌, ◌++◌, Option, Some, None, refl, sym, ap, subst, is_some, option_to_list, Ok, Err, Refusal, denials, arith, Request, Reply, Verdict, Stamped, State}
+use Rattle.law_runs.proofs.Vocabulary.{record_of, reply_of, after_record, recorded, verdict_of, audit_of, denial_of, with_item, is_full, served, record_here, record_apart, record_step, recording, Replied, Fixed, Task, Phase, Deciding, Proposal}
+use Rattle.law_runs.proofs.Vocabulary.{home_of, decision_of, is_decide, said_by, Agent, Decided, to_decide, answer_in, decided_as, decided_at}
 use Rattle.file_ops.specs.declared.audit.AuditItem.{AuditItem}
-use Rattle.file_ops.specs.declared.refusal.Why.{Why}
 use Rattle.rep_core.specs.Service.{after}
 use Rattle.rep_core.specs.Serving.{step}
 use Rattle.run_core.specs.Decisions.{answer_of}
-use Rattle.file_ops.specs.declared.refusal.Why.TheVariants as why
 use Rattle.rep_core.specs.declared.request.Request.TheVariants as request
 use Rattle.rep_core.specs.declared.reply.Reply.TheVariants as reply
 use Rattle.rep_core.specs.declared.reply.Verdict.TheVariants as verdict
 use Rattle.law_runs.proofs.Standing.{Stands, Recorded, none_in, stands_more, stands_last, stands_if}
 use Rattle.law_runs.proofs.Records as records
-use Rattle.law_runs.proofs.Records.{Records, Same, Decided as Decided', Aborted}
+use Rattle.law_runs.proofs.Records.{Records, Aborted}
 use Rattle.law_runs.proofs.Servers.{Quiet, Deciding as DecidingAt, append_none}
-use Rattle.law_runs.proofs.Places.{same_or}
 use Rattle.law_runs.proofs.Words.{Tells}
 use Rattle.law_runs.proofs.Agents.{IsOf, AreOf, none_of}
 
@@ -32,20 +29,10 @@ decides_at st task asked said = decided_at (Some st) (to_decide asked) (decided_
 -- ---- any request but a Decide
 
 pub no_decide : (asked : Request) → is_decide asked ≡ false → to_decide asked ≡ None
-no_decide (request.Decide t decision) is = absurd cc
-no_decide other is = refl
+no_decide asked h1 = search arith
 
 quiet_records : (st new : State) (asked : Request) → is_decide asked ≡ false → Records st asked new → Quiet st new []
-quiet_records st new asked other (Same same audit) = record { none = refl; old = λ t v has. inl (sym (same t) ∙ has); audit = audit }
-quiet_records st new asked other (Decided' t decision is free here apart audit) = absurd (false≢true (sym other ∙ ap is_decide is))
-quiet_records st new asked other (Aborted t is free here apart audit) = record {
-  none = refl;
-  old = λ u v has. ⊎_elim
-      (λ same. inr (same_Some v verdict.Aborted (sym has ∙ ap (record_of new) same ∙ here)))
-      (λ other. inl (sym (apart u other) ∙ has))
-      (same_or u t);
-  audit = audit;
-}
+quiet_records st new asked h3 h4 = search arith
 
 pub step_is : (st : State) (asked : Stamped Request) → is_full st asked ≡ false → step st asked ≡ served st asked
 step_is st asked room = ap (λ b. cond b st (served st asked)) room
@@ -58,14 +45,7 @@ stays_served st asked room t v has = subst (λ new. record_of new t ≡ Some v) 
 
 pub other_turn : (fixed : Fixed) (agent : Agent) (i : ℕ) (task : Task) (phase : Phase) (ds : List Decided) (s : ℕ) (st : State) (asked : Stamped Request) (said : Reply)
     → is_full st asked ≡ false → is_decide asked.value ≡ false → Turn fixed agent i task phase ds s st (served st asked) asked.value said (decides_at st task asked.value said)
-other_turn fixed agent i task phase ds s st asked said room other =
-    subst (Turn fixed agent i task phase ds s st (served st asked) asked.value said)
-    (ap (λ t. decided_at (Some st) t (decided_as (Some task) (answer_in said))) (sym (no_decide asked.value other)))
-    (record {
-      served = inl (quiet_served st asked room other);
-      of = none_of agent i;
-      says = λ v tells stands. subst (λ b. Stands (ds ++ []) task.t (cond b (said_by (Replied said) v) v)) (sym other) (stands_more ds [] task.t v (none_in task.t) stands);
-    })
+other_turn fixed agent i task phase ds s st asked said room other = search (no_decide, quiet_served, none_of, stands_more, none_in, arith)
 
 -- ---- a Decide
 
@@ -74,11 +54,7 @@ abbrev stamped : ℕ → State → State
 stamped stamp st = record st { stamp = stamp }
 
 item_is : (t : ℕ) (task : Task) (refusal : Refusal) (audit : List AuditItem) → with_item (denial_of t task.caller.uid refusal.op refusal.why) audit ≡ audit ++ denials t task.caller refusal
-item_is t task refusal audit = of refusal.why
-  where
-    of : (cause : Why) → with_item (denial_of t task.caller.uid refusal.op cause) audit ≡ audit ++ denials t task.caller (record refusal { why = cause })
-    of (why.Denied denial) = refl
-    of _ = sym (append_none audit)
+item_is t task refusal audit = search (append_none, arith)
 
 module _ (fixed : Fixed) (agent : Agent) (i : ℕ) (task : Task) (ds : List Decided) (s : ℕ) (st : State) (stamp : ℕ) (home : home_of fixed.service task.t ≡ s)
     (is : (d : Decided) → d.t ≡ task.t → IsOf agent i d) (recorded_so : (v : Verdict) → record_of st task.t ≡ Some v → Recorded ds task.t v) where
@@ -91,11 +67,7 @@ module _ (fixed : Fixed) (agent : Agent) (i : ℕ) (task : Task) (ds : List Deci
   -- the home has a record already, or is down: nothing is decided
   nothing_new : (outcome : Proposal) (said : Reply) → ((v : Verdict) → v ≡ verdict.Aborted → Stands ds task.t v → Stands ds task.t (said_by (Replied said) v))
       → Turn fixed agent i task (Deciding outcome) ds s st (stamped stamp st) (asked_by outcome) said None
-  nothing_new outcome said says = record {
-    served = inl (record { none = refl; old = λ t v has. inl has; audit = refl });
-    of = none_of agent i;
-    says = λ v tells stands. stands_more ds [] task.t (said_by (Replied said) v) (none_in task.t) (says v tells stands);
-  }
+  nothing_new outcome said says = search (none_of, stands_more, none_in, arith)
 
   -- it has none: what is carried is recorded
   first : (outcome : Proposal) → record_of st task.t ≡ None
@@ -142,12 +114,7 @@ module _ (fixed : Fixed) (agent : Agent) (i : ℕ) (task : Task) (ds : List Deci
       subst (Turn fixed agent i task (Deciding outcome) ds s st (stamped stamp st) (asked_by outcome) (reply.Verdict old))
       (ap (λ r. cond (is_some r) None (decided_as (Some task) (answer_of old))) (sym has))
       (nothing_new outcome (reply.Verdict old) (λ v aborted stands. stands_if ds task.t old (recorded_so old has) (subst (Stands ds task.t) aborted stands)))
-  by_record outcome None free =
-      subst (Turn fixed agent i task (Deciding outcome) ds s st
-      (stamped stamp (recording task.t (verdict_of (decision_of task outcome)) (audit_of task.t (decision_of task outcome)) st)) (asked_by outcome)
-      (reply.Verdict (verdict_of (decision_of task outcome))))
-      (ap (λ r. cond (is_some r) None (decided_as (Some task) (answer_of (verdict_of (decision_of task outcome))))) (sym free))
-      (first outcome free)
+  by_record outcome None free = search (recording, first, arith)
 
   down : (outcome : Proposal) → Turn fixed agent i task (Deciding outcome) ds s st (stamped stamp st) (asked_by outcome) reply.Down (decides_at st task (asked_by outcome) reply.Down)
   down outcome =
@@ -156,16 +123,8 @@ module _ (fixed : Fixed) (agent : Agent) (i : ℕ) (task : Task) (ds : List Deci
       (nothing_new outcome reply.Down (λ v aborted stands. stands))
     where
       same : (b : Bool) → None ≡ cond b None (decided_as (Some task) None)
-      same true = refl
-      same false = refl
+      same b = search arith
 
   pub decide_turn : (outcome : Proposal) → Turn fixed agent i task (Deciding outcome) ds s st (stamped stamp (after st (asked_by outcome))) (asked_by outcome)
       (reply_of st (asked_by outcome)) (decides_at st task (asked_by outcome) (reply_of st (asked_by outcome)))
-  decide_turn outcome =
-      elim (st.up) as (λ b. Turn fixed agent i task (Deciding outcome) ds s st
-      (stamped stamp (cond b (after_record (record_of st task.t) task.t (verdict_of (decision_of task outcome)) (audit_of task.t (decision_of task outcome)) st) st)) (asked_by outcome)
-      (cond b (reply.Verdict (recorded (record_of st task.t) (verdict_of (decision_of task outcome)))) reply.Down)
-      (decides_at st task (asked_by outcome) (cond b (reply.Verdict (recorded (record_of st task.t) (verdict_of (decision_of task outcome)))) reply.Down))) [
-        | true ↦ by_record outcome (record_of st task.t) refl
-        | false ↦ down outcome
-      ]
+  decide_turn outcome = search (down outcome, by_record, arith)

@@ -1,18 +1,17 @@
 -- What holds of the decisions and the jobs that ended in every run: one event after the other.
-use Rattle.law_runs.proofs.Vocabulary.{◌≡◌, ◌≢◌, ◌⊎◌, inl, inr, ⊎_elim, ℕ, zero, suc, ◌+◌, ◌≤◌, Bool, true, false, cond, List, [], ◌∷◌, ◌++◌, append_assoc, Option, Some, None, refl, sym, ap, subst, ◌∙◌, arith, ◌*◌, slice_get, slice_set, option_map}
+use Rattle.law_runs.proofs.Vocabulary.{◌≡◌, ◌≢◌, ◌⊎◌, inl, inr, ⊎_elim, ℕ, zero, suc, ◌+◌, ◌≤◌, Bool, true, false, cond, List, [], ◌∷◌, ◌++◌, append_assoc, Option, Some, None, refl, sym, ap, subst, ◌∙◌, arith, slice_get, slice_set, option_map}
 use Rattle.law_runs.proofs.Vocabulary.{option_to_list, cons_option, none-some, same_Some, Request, Reply, Verdict, Stamped, State, record_of, is_full, served, answer_of, next_stamp, Ending, Job, Response, Replied, Lacked, Fixed, Task, TransactionRun}
-use Rattle.law_runs.proofs.Vocabulary.{SweepRun, Doing, Running, RunningSweep, home_of, is_decide, said_by, Agent, next_in, next_of, take_in, take, begin, forget, Event, Begin, Step, Crash, Return, Forget, Lack, Served, EndedJob, Actor, World}
-use Rattle.law_runs.proofs.Vocabulary.{server_at, actor_at, with_actor, Stepped, serve, after_serving, moved, outcome_of, lacked, answered, becomes, asks_at, asks, steps_once, lacks_for, lacks, operated, operates, step, after, dones, outcomes}
-use Rattle.law_runs.proofs.Vocabulary.{Decided, task_of, task_at, task_in, decided_by, decided, decisions_from, decided_at, to_decide, decided_as, answer_in, asks_same, Deciding as Deciding'}
+use Rattle.law_runs.proofs.Vocabulary.{SweepRun, Doing, Running, RunningSweep, is_decide, Agent, next_in, next_of, take_in, take, begin, forget, Event, Begin, Step, Crash, Return, Forget, Lack, Served, EndedJob, Actor, World, server_at, actor_at}
+use Rattle.law_runs.proofs.Vocabulary.{with_actor, Stepped, serve, after_serving, moved, outcome_of, lacked, answered, becomes, asks_at, asks, steps_once, lacks_for, lacks, operated, operates, step, after, dones, outcomes, Decided, task_of, task_at}
+use Rattle.law_runs.proofs.Vocabulary.{task_in, decided_by, decided, decisions_from, decided_at, to_decide, decided_as, answer_in, asks_same, Deciding as Deciding'}
 use Rattle.rep_core.specs.declared.stamped.Lack.{Lack as Why}
 use Rattle.rep_core.specs.Service.{after as after_request, reply_of}
 use Rattle.rep_core.specs.declared.request.Request.TheVariants as request
 use Rattle.rep_core.specs.declared.stamped.Lack.TheVariants as lack
-use Rattle.law_runs.proofs.Standing.{NotIn, Stands, Recorded, none_in, stands_more, has_append}
+use Rattle.law_runs.proofs.Standing.{NotIn, Recorded, none_in, stands_more, has_append}
 use Rattle.law_runs.proofs.Places.{Puts}
 use Rattle.law_runs.proofs.Servers.{AreKept, Quiet, Deciding, append_none, kept_quietly, kept_deciding, kept_none}
 use Rattle.law_runs.proofs.Asking.{sweep_decides_none, decides}
-use Rattle.law_runs.proofs.Words.{Tells}
 use Rattle.law_runs.proofs.Agents.{IsAt, IsAfter, Says, after_take, take_keeps, Begins, begins, AreOf, none_of, AreAt, agents_put, not_begun}
 use Rattle.law_runs.proofs.Past.{IsOver, AreOver, over_put, over_last, over_more}
 use Rattle.law_runs.proofs.Turns.{Turn, no_decide, decides_at, other_turn, decide_turn, quiet_served, stays_served}
@@ -66,9 +65,7 @@ abbrev HoldsAfter : Fixed → World → Option Task → List Decided → List En
 HoldsAfter fixed world task ds past stepped = Holds fixed stepped.world (ds ++ option_to_list (decided_by world task stepped.done.served)) (past ++ option_to_list stepped.done.outcome)
 
 pub puts_agent : (world : World) (i : ℕ) (actor new : Actor) → actor_at world i ≡ Some actor → Puts (agent_at world) (agent_at (with_actor i new world)) i actor.agent new.agent
-puts_agent world i actor new is =
-    let puts = puts_in world.agents i actor new is in
-    record { was = ap agent_of is; here = ap agent_of puts.here; apart = λ j apart. ap agent_of (puts.apart j apart) }
+puts_agent world i actor new is = search (puts_in world.agents i actor new is, arith)
 
 -- what is the same with nothing more
 with_none : (fixed : Fixed) (world : World) (ds : List Decided) (past : List EndedJob) → Holds fixed world ds past → Holds fixed world (ds ++ []) (past ++ [])
@@ -191,14 +188,7 @@ took_holds fixed world servers i actor asked response stamp ds more past holds i
 
 -- a response that decides nothing
 lacked_says : (fixed : Fixed) (ds : List Decided) (i : ℕ) (why : Why) (doing : Option Doing) (asked : ℕ × Request) → Says fixed ds [] i (Lacked why) doing asked
-lacked_says fixed ds i why doing asked = record {
-  txn_run = λ txn_run v is tells stands. stands_more ds [] txn_run.task.t (cond (is_decide asked.1) v v) (none_in txn_run.task.t) (subst (Stands ds txn_run.task.t) (same (is_decide asked.1) v) stands);
-  sweep_run = λ sweep_run is place. none_in (64 * place + i);
-}
-  where
-    same : (b : Bool) (v : Verdict) → v ≡ cond b v v
-    same true v = refl
-    same false v = refl
+lacked_says fixed ds i why doing asked = search (stands_more, none_in, arith)
 
 lacked_holds : (fixed : Fixed) (world : World) (i : ℕ) (actor : Actor) (asked : ℕ × Request) (why : Why) (task : Option Task) (ds : List Decided) (past : List EndedJob)
     → Holds fixed world ds past → actor_at world i ≡ Some actor → next_of fixed actor.agent ≡ Some asked
@@ -242,14 +232,7 @@ goes fixed agent i ds s st asked (Some (Running txn_run)) doing at next room rec
     record {
       served = turn.served;
       of = turn.of;
-      says = record {
-        txn_run = λ other v is tells stands.
-            let same : txn_run ≡ other = same_course txn_run other (sym doing ∙ is) in
-            subst (λ (other : TransactionRun). Stands (ds ++ option_to_list (decides_at st txn_run.task asked.value (reply_of st asked.value))) other.task.t
-            (cond (is_decide asked.value) (said_by (Replied (reply_of st asked.value)) v) v)) same
-            (turn.says v (subst (λ (other : TransactionRun). Tells v other.phase) (sym same) tells) (subst (λ (other : TransactionRun). Stands ds other.task.t v) (sym same) stands));
-        sweep_run = λ sweep_run is. absurd (running_round txn_run sweep_run (sym doing ∙ is));
-      };
+      says = search (same_course, option_to_list, decides_at, running_round, arith);
     }
   where
     course_in : TransactionRun → Option Doing → TransactionRun
@@ -262,32 +245,11 @@ goes fixed agent i ds s st asked (Some (Running txn_run)) doing at next room rec
 
     running_round : (a : TransactionRun) (b : SweepRun) → ◌≡◌ {A = Option Doing} (Some (Running a)) (Some (RunningSweep b)) → ⊥
     running_round a b is = cc
-goes fixed agent i ds s st asked (Some (RunningSweep sweep_run)) doing at next room recorded_so =
-    let other : is_decide asked.value ≡ false = ap is_decide (sym (asks_same _ s _ asked.value next)) ∙ sweep_decides_none fixed.service sweep_run sweep_run.now in
-    subst (Goes fixed agent i ds s st (served st asked) (s, asked.value) (reply_of st asked.value))
-    (ap (λ t. decided_at (Some st) t (decided_as None (answer_in (reply_of st asked.value)))) (sym (no_decide asked.value other)))
-    (record {
-      served = inl (quiet_served st asked room other);
-      of = none_of agent i;
-      says = record {
-        txn_run = λ txn_run v is. absurd (round_running sweep_run txn_run (sym doing ∙ is));
-        sweep_run = λ sweep_run is place. none_in (64 * place + i);
-      };
-    })
-  where
-    round_running : (a : SweepRun) (b : TransactionRun) → ◌≡◌ {A = Option Doing} (Some (RunningSweep a)) (Some (Running b)) → ⊥
-    round_running a b is = cc
+goes fixed agent i ds s st asked (Some (RunningSweep sweep_run)) doing at next room recorded_so = search (asks_same, sweep_decides_none, no_decide, quiet_served, none_of, none_in, arith)
 
 -- what is decided was not before
 apart_served : (fixed : Fixed) (f : ℕ → Option State) (s : ℕ) (st new : State) (ds more : List Decided) → f s ≡ Some st → AreKept fixed f ds → AreApart ds → Quiet st new more ⊎ Deciding fixed s st new more → AreApart (ds ++ more)
-apart_served fixed f s st new ds more at kept apart served =
-    ⊎_elim
-    (λ quiet. subst (λ more. AreApart (ds ++ more)) (sym quiet.none) (subst AreApart (sym (append_none ds)) apart))
-    (λ does. subst (λ more. AreApart (ds ++ more)) (sym does.one) (apart_more ds does.decision apart (λ e has same.
-    let old = kept.kept e has in
-    let home : home_of fixed.service e.t ≡ s = ap (home_of fixed.service) same ∙ does.home in
-    none-some _ (sym does.free ∙ ap (λ (st : State). record_of st does.decision.t) (same_Some st old.st (sym at ∙ ap f (sym home) ∙ old.at)) ∙ ap (record_of old.st) (sym same) ∙ old.is))))
-    served
+apart_served fixed f s st new ds more at kept apart served = search (append_none, apart_more, none-some, same_Some, arith)
 
 kept_served : (fixed : Fixed) (f g : ℕ → Option State) (s : ℕ) (st new : State) (ds more : List Decided) → Puts f g s st new
     → ((t : ℕ) (v : Verdict) → record_of st t ≡ Some v → record_of new t ≡ Some v) → AreKept fixed f ds → Quiet st new more ⊎ Deciding fixed s st new more
@@ -353,8 +315,7 @@ event_holds fixed world (Forget i site) ds past holds = forget_holds fixed world
 event_holds fixed world (Lack i why) ds past holds = lack_holds fixed world i why ds past holds (actor_at world i) refl
 
 pub cons_is : {X : Type 0} (one : Option X) (xs : List X) → option_to_list one ++ xs ≡ cons_option one xs
-cons_is None xs = refl
-cons_is (Some x) xs = refl
+cons_is one xs = search arith
 
 joined : {X : Type 0} (xs : List X) (one : Option X) (ys : List X) → (xs ++ option_to_list one) ++ ys ≡ xs ++ cons_option one ys
 joined xs one ys = append_assoc xs (option_to_list one) ys ∙ ap (λ rest. xs ++ rest) (cons_is one ys)
