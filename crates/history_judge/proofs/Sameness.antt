@@ -14,7 +14,6 @@ bind_same : {A B E : Type 0} (first : Result A E) (next next' : A → Result B E
 bind_same first next next' h3 = search arith
 
 module _ (service : Service) (t t' : ℕ) (caller : Identity) where
-
   operation_same : (rows : Rows) (at : ℕ) (op other : Op) → DoSame op other → operation service rows t at caller op ≡ operation service rows t' at caller other
   operation_same rows at op other same = search arith
 

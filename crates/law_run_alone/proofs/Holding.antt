@@ -31,7 +31,6 @@ pub doing_any : (w : World) (t : ℕ) (doing : Option Doing) → Stands w t → 
 doing_any w t doing h3 = search arith
 
 module _ (w later : World) (t : ℕ) (keeps : Stands w t → Stands later t) where
-
   doing_later : (doing : Option Doing) → DoingStands w t doing → DoingStands later t doing
   doing_later doing h1 = search arith
 

@@ -84,6 +84,5 @@ releases request.Crash = true
 releases other = false
 
 module _ (z : ℕ) (home : ℕ → ℕ) (decision : Event) (spares : Spares decision) (i : ℕ) (w : World) where
-
   pub spare_moves : (asked : Request) (said : Reply) → releases asked ≡ false → AllSpare (moves z home decision i w asked said)
   spare_moves asked said h2 = search arith

@@ -54,7 +54,6 @@ pub record AgentFits (z : ℕ) (start : Beginning) (w : World) (agent : Agent) :
   pub doing : DoingFits z start w agent.doing
 
 module _ (z : ℕ) (start : Beginning) (w later : World) (l : Lasts start w later) where
-
   version_later : (t i dver : ℕ) → ToldVersion w t i dver → ToldVersion later t i dver
   version_later t i dver was = search arith
 

@@ -19,7 +19,6 @@ told_lock start w inv i t lock stands = of (w.told i t) refl
     of (Some told) is = (told, is, inv.sound.shown i t told lock is stands)
 
 module _ (start : Beginning) (z : ℕ) (home : ℕ → ℕ) (decision : Event) (i : ℕ) (w : World) (inv : Inv start w) where
-
   upgraded : (t : ℕ) (prefix : Prefix) (dver : ℕ) → MayUpgrade w i t → TellsCopy w i prefix dver → ToldOf ((machine.upgraded w i t).told i t) prefix dver
   upgraded t prefix dver may tells =
       let old = told_lock start w inv i t may.lock may.stands in

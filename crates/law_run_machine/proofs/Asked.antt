@@ -35,7 +35,6 @@ pub record Steady (w later : World) : Type 0 where
   pub verdict : later.verdict ≡ w.verdict
 
 module _ (start : Beginning) (z : ℕ) (home : ℕ → ℕ) (decision : Event) (i : ℕ) (w : World) where
-
   pub steady_served : (asked : Request) (said : Reply) → rules asked ≡ false → Steady w (run start w (moves z home decision i w asked said))
   steady_served asked said h2 = search arith
 

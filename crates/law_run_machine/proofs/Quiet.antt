@@ -34,7 +34,6 @@ AreOf t [] = Unit {0}
 AreOf t (event ∷ events) = IsOf t event × AreOf t events
 
 module _ (start : Beginning) (w : World) (u t : ℕ) (apart : u ≡ t → ⊥) where
-
   quiet_event : (event : Event) → May start w event → IsOf t event → Quiet w (happens start w event) u
   quiet_event event h1 h2 = search arith
 

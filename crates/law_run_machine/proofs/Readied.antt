@@ -22,7 +22,6 @@ abbrev pub ToldBelow : World → Type 0
 ToldBelow w = (j u : ℕ) → is_some (w.told j u) ≡ true → j < max_servers
 
 module _ (start : Beginning) (z : ℕ) (home : ℕ → ℕ) (decision : Event) (i : ℕ) (w : World) (small : i < max_servers) (below : ToldBelow w) (keeps : (happens start w decision).told ≡ w.told) where
-
   below_set : (t : ℕ) (x : Option Told) (j u : ℕ) → is_some (set2 w.told i t x j u) ≡ true → j < max_servers
   below_set t x j u = at2 (λ o. is_some o ≡ true → j < max_servers) w.told i t x j u (λ at _. subst (λ j. j < max_servers) (sym at.0) small) (λ _ is. below j u is)
 

@@ -35,7 +35,6 @@ told_none o h1 = search arith
 -- ---- an upgrade is of a lock that was told of
 
 module _ (z : ℕ) (w : World) (fixed : Fixed) (task : Task) (suites : Suites) (server : ℕ) (told : ToldAs z w task.t suites) where
-
   pub upgrade_told : (phase : Phase) (t s : ℕ) → request_in fixed task suites phase ≡ Some (server, request.Upgrade t s) → z ≡ s → is_some (w.told server task.t) ≡ true
   upgrade_told phase t s h3 h4 = search arith
 

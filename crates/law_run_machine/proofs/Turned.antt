@@ -209,7 +209,6 @@ pub record Begun (start : Beginning) (z : ℕ) (w : World) (n : ℕ) (before : O
   pub others : Others w (run start w (begun_events z before new.doing)) n
 
 module _ (start : Beginning) (z : ℕ) (w : World) (n : ℕ) (fixed : Fixed) (agent : Agent) (small : n < 64) (linked : Linked z w n agent) where
-
   -- it was busy, or the job has no sense
   stays_so : Begun start z w n agent.doing agent
   stays_so = search arith

@@ -49,7 +49,6 @@ abbrev Answers : Fixed → (ℕ → Option State) → ℕ × Request → Respons
 Answers fixed g asked response = (t : ℕ) (v : Verdict) → asked ≡ (home_of fixed.service t, request.Resolve t) → response ≡ Replied (reply.Verdict v) → Ruled fixed g t v
 
 module _ (fixed : Fixed) (g : ℕ → Option State) where
-
   swept_on : (sweep_run : SweepRun) (locks : List Lock) → TellsRules fixed g (left RunningSweep (sweep.sweep_on sweep_run locks))
   swept_on sweep_run locks = search arith
 

@@ -38,7 +38,7 @@ pub use prog.Wp.{Calls, Env, Loops, Tables, WpFn}
 pub use seplogic.Ra.Ura.{Ura}
 pub use sound.WpLaws.{WpFn-mono}
 pub use types.ByLocal.{alloc_all, env, free_all, get, give_at, look_at, pass_all, sets, sets_last, take_at, through}
-pub use types.Kit.{!, at_ret, await, by, done, drop, feq_i, fjoin, flt_l, frame, fsplit, fsplit3, group, join, keep, later, move, pick, qed, raw, rewrite, some, split, suffices, use1, ‵, ◌$◌, ◌∵◌, ◌⊛◌}
+pub use types.Kit.{ !, at_ret, await, by, done, drop, feq_i, fjoin, flt_l, frame, fsplit, fsplit3, group, join, keep, later, move, pick, qed, raw, rewrite, some, split, suffices, use1, ‵, ◌$◌, ◌∵◌, ◌⊛◌}
 pub use types.Logic.{Logic, sem}
 pub use types.Run.{addr, bin, blocks, enter, exec, first, of_opd, returns, size_lit, stop}
 pub use Rattle.recency.specs.Links.{AreLinked, IsNode, IsNodeAt, LinkLeads, LinksLead, entered, index_of, left, link_in, no_node, node_at, node_size, number, with_both, with_link, with_newer, with_older}

@@ -143,7 +143,6 @@ valid_copies store sound fit = search (both, each_effect, arith)
 -- ---- what is told
 
 module _ (st : State) (valid : (suite : ℕ) → IsCopy (copy_of st.store suite)) where
-
   tells_up : (asked : Request) → TellsOfValid (reply_up st asked)
   tells_up asked = search arith
 

@@ -32,7 +32,6 @@ pub record Ways (st : State) (P : Request → State → Type 0) : Type 0 where
   pub return : P request.Return (record st { up = true })
 
 module _ (st : State) (P : Request → State → Type 0) (ways : Ways st P) where
-
   by_prepare : (t : ℕ) (parts : List Part) (kept full : Bool) → prepares st t parts ≡ kept → overfills t st.store parts ≡ full → (kept && full) ≡ false → P (request.Prepare t parts) (cond kept (laid t parts st) st)
   by_prepare t parts kept full h4 h5 h6 = search arith
 

@@ -8,7 +8,6 @@ pub same_mode : (t number : ℕ) (asked : Asked) → mode_of (request_for t numb
 same_mode t number asked = search arith
 
 module _ (task : Task) (cache : Cache) (suites : Suites) (phase : Phase) (number : ℕ) (suite : GatheredSuite) (server : ℕ) (go_on : GatheredSuite → Step) where
-
   -- the reply to what it asks
   pub hears : (asked : Asked) (answer : Reply) → next suite.collector ≡ Ask server asked
       → hear task cache suites phase number suite server (request_for task.t number asked) (said_to (request_for task.t number asked) answer) go_on

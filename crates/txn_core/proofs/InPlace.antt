@@ -93,6 +93,5 @@ module _ (last : Told) (said : Reply) where
 
 -- the quorum that a suite is to have then
 module _ (said : Reply) where
-
   pub settles_lost : (found : Option GatheredSuite) → SettlesAt found None said → heard_at found said ≡ hearing.Lost
   settles_lost found h1 = search arith

@@ -29,7 +29,6 @@ pub asks_of : (task : Task) (suites : Suites) (number server : ℕ) → server_o
 asks_of task suites number server asked = asks_at task suites number server (suite_of suites number) refl asked
 
 module _ (fixed : Fixed) (txn_run : TransactionRun) (cache : Cache) (number server : ℕ) (said : Reply) where
-
   -- a suite is gathered
   pub gathered : (a : Asks txn_run.task txn_run.suites number server) → txn_run.phase ≡ Gathering number
       → taken fixed txn_run cache (request_of fixed txn_run) (Replied said)

@@ -14,10 +14,10 @@ module _ (fixed : Fixed) (state : Agent) (response : Response) (ending : Option 
   -- ---- a transaction
 
   module _ (after : TransactionRun) (kept : Cache) where
-
     pub took_response : (running : TransactionRun) → state.doing ≡ Some (Running running)
         → Steps (taken fixed running state.cache (request_of fixed running) response) ending after kept → Took fixed state response ending kept (Some (Running after))
     took_response running is steps = search arith
+
 -- ---- an ending
 
 -- what was taken, told of the agent after it

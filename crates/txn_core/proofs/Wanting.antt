@@ -8,7 +8,6 @@ use Rattle.rep_core.specs.declared.reply.Verdict.TheVariants as verdict
 
 -- a suite is answered by the server that it asks
 module _ (fixed : Fixed) (txn_run : TransactionRun) (said : Reply) (number : ℕ) (result : Result Flow AllocError) where
-
   pub gathering_wants_asked : txn_run.phase ≡ Gathering number → IfErr result (λ _. is_some (asks_in txn_run number) ≡ true) → IfErr result (λ _. is_held said ≡ true)
       → IfErr result (λ _. by_taking (request_of fixed txn_run) (Replied said) ≡ true)
   gathering_wants_asked is some told = search arith
