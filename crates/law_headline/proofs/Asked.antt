@@ -1,9 +1,9 @@
 -- What is decided was begun so: by whom, and with which operations.
-use Rattle.law_headline.proofs.Vocabulary.{◌≡◌, ⊎_elim, ℕ, ◌+◌, true, false, cond, List, [], ◌∷◌, ◌++◌, append_assoc, Option, Some, None, refl, sym, ap, subst, ◌∙◌, ◌*◌, ◌&&◌, nat_lt, Contains, cons_option, append-nil}
-use Rattle.law_headline.proofs.Vocabulary.{Contains-append_cases, none-some, same_Some, Opening, IsAccepted, Identity, Op, Request, Reply, Verdict, is_prepared, has_from, Cache, Cause, Lost, Ending, Undecided, Job, Transaction, Sweep}
-use Rattle.law_headline.proofs.Vocabulary.{Response, Replied, Lacked, Suites, Fixed, Task, Proposal, Phase, Gathering, Fetching, Widening, Preparing, Deciding, Finishing, TransactionRun, SweepRun, Doing, Running, RunningSweep, After}
-use Rattle.law_headline.proofs.Vocabulary.{GoesOn, Ends, execute, tell_end, give_up, prepare, prepared, locked_at, lack_cause, after_response, verdict_in, ending_by, cause_of_abort, Event, Begin, Actor, actor_at, becomes, opening, step}
-use Rattle.law_headline.proofs.Vocabulary.{Decided, task_of, decided, decisions, decisions_from, begins_now, holds_of, answers_follow_knowledge, actor_opens, after-append, decisions_from-append}
+use Rattle.law_headline.proofs.Vocabulary.{◌≡◌, ⊎_elim, ℕ, ◌+◌, true, false, cond, List, [], ◌∷◌, ◌++◌, append_assoc, Option, Some, None, refl, sym, ap, subst, ◌∙◌, ◌*◌, ◌&&◌, nat_lt, Contains, cons_option, append-nil, arith, Contains-append_cases}
+use Rattle.law_headline.proofs.Vocabulary.{none-some, Opening, IsAccepted, Identity, Op, Request, Reply, Verdict, has_from, Cache, Cause, Lost, Ending, Undecided, Job, Transaction, Sweep, Response, Replied, Lacked, Suites, Fixed, Task, Proposal}
+use Rattle.law_headline.proofs.Vocabulary.{Phase, Gathering, Fetching, Widening, Preparing, Deciding, Finishing, TransactionRun, SweepRun, Doing, Running, RunningSweep, After, GoesOn, Ends, execute, tell_end, give_up, prepare, prepared, locked_at}
+use Rattle.law_headline.proofs.Vocabulary.{lack_cause, after_response, Event, Begin, Actor, actor_at, becomes, opening, step, Decided, task_of, decided, decisions, decisions_from, begins_now, holds_of, answers_follow_knowledge, actor_opens}
+use Rattle.law_headline.proofs.Vocabulary.{after-append, decisions_from-append}
 use Rattle.run_core.proofs.EachAgent.{OfEach, each_becomes, after_event as each_after}
 use Rattle.txn_core.proofs.Walk.{IsEarly, goes_response, goes_execute}
 use Rattle.law_runs.proofs.Worlds.{agent_of}
@@ -21,15 +21,13 @@ Stays task (GoesOn txn_run) = txn_run.task ≡ task
 Stays task (Ends ending) = Unit {0}
 
 stays_end : (task : Task) (cache : Cache) (suites : Suites) (v : Verdict) (ending : Ending) (servers : List ℕ) → Stays task (tell_end task cache suites v ending servers).after
-stays_end task cache suites v ending [] = tt
-stays_end task cache suites v ending (server ∷ servers) = refl
+stays_end task cache suites v ending servers = search arith
 
 stays_give_up : (task : Task) (cache : Cache) (suites : Suites) (cause : Cause) → Stays task (give_up task cache suites cause).after
 stays_give_up task cache suites cause = stays_end task cache suites verdict.Aborted (Undecided cause) (locked_at suites)
 
 stays_prepare : (task : Task) (cache : Cache) (suites : Suites) (outcome : Proposal) (servers : List ℕ) → Stays task (prepare task cache suites outcome servers).after
-stays_prepare task cache suites outcome [] = refl
-stays_prepare task cache suites outcome (server ∷ servers) = refl
+stays_prepare task cache suites outcome servers = search arith
 
 stays_prepares : (task : Task) (cache : Cache) (suites : Suites) (outcome : Proposal) → Stays task (prepare task cache suites outcome (locked_at suites)).after
 stays_prepares task cache suites outcome = stays_prepare task cache suites outcome (locked_at suites)
@@ -41,11 +39,7 @@ pub stays_begin : (fixed : Fixed) (task : Task) (cache : Cache) → Stays task (
 stays_begin fixed task cache = goes_execute task (Stays task) (stays_early task) (stays_give_up task) (stays_prepares task) fixed (record { suites = []; cache = cache })
 
 stays_prepared : (task : Task) (cache : Cache) (suites : Suites) (outcome : Proposal) (server : ℕ) (left : List ℕ) (said : Reply) → Stays task (prepared task cache suites outcome server left said).after
-stays_prepared task cache suites outcome server left said =
-    elim (is_prepared said) as (λ b. Stays task (cond b (prepare task cache suites outcome left) (give_up task cache suites (Lost server))).after) [
-      | true ↦ stays_prepare task cache suites outcome left
-      | false ↦ stays_give_up task cache suites (Lost server)
-    ]
+stays_prepared task cache suites outcome server left said = search (stays_prepare, stays_give_up, arith)
 
 stays_response_early : (fixed : Fixed) (task : Task) (cache : Cache) (suites : Suites) (phase : Phase) (server : ℕ) (asked : Request) (response : Response) → IsEarly phase
     → Stays task (after_response fixed (record { task = task; suites = suites; phase = phase }) cache server asked response).after
@@ -60,8 +54,7 @@ stays_response fixed task cache suites (Widening left granted) server asked resp
 stays_response fixed task cache suites (Preparing [] outcome) server asked (Replied said) = stays_give_up task cache suites (Lost server)
 stays_response fixed task cache suites (Preparing (now ∷ left) outcome) server asked (Replied said) = stays_prepared task cache suites outcome server left said
 stays_response fixed task cache suites (Preparing left outcome) server asked (Lacked lacked) = stays_give_up task cache suites (lack_cause server lacked)
-stays_response fixed task cache suites (Deciding outcome) server asked (Replied said) =
-    stays_end task cache suites (verdict_in said verdict.Aborted) (ending_by (verdict_in said verdict.Aborted) (cause_of_abort said)) (locked_at suites)
+stays_response fixed task cache suites (Deciding outcome) server asked (Replied said) = search (stays_end, arith)
 stays_response fixed task cache suites (Deciding outcome) server asked (Lacked lacked) = stays_give_up task cache suites (lack_cause server lacked)
 stays_response fixed task cache suites (Finishing [] told ending) server asked (Replied said) = stays_end task cache suites told ending []
 stays_response fixed task cache suites (Finishing (now ∷ left) told ending) server asked (Replied said) = stays_end task cache suites told ending left
@@ -78,12 +71,10 @@ module _ (fixed : Fixed) (Q : Task → Type 0) where
   AllHave world = OfEach Has world
 
   pub on_course : (was : Task) (after : After TransactionRun) → Stays was after → Q was → (task : Task) → task_of (left_doing Running after) ≡ Some task → Q task
-  on_course was (GoesOn more) stays has task is = subst Q (sym stays ∙ same_Some more.task task is) has
-  on_course was (Ends ending) stays has task is = absurd (none-some task is)
+  on_course was after h2 h3 task h5 = search arith
 
   on_round : (after : After SweepRun) (task : Task) → task_of (left_doing RunningSweep after) ≡ Some task → Q task
-  on_round (GoesOn more) task is = absurd (none-some task is)
-  on_round (Ends ending) task is = absurd (none-some task is)
+  on_round after task h2 = search arith
 
   takes_in : (agent : Agent) (response : Response) (doing : Option Doing) (asked : Option (ℕ × Request)) → agent.doing ≡ doing → Has agent → Has (take_in fixed agent response doing asked).agent
   takes_in agent response (Some (Running txn_run)) (Some asked) is has =
@@ -107,14 +98,7 @@ module _ (fixed : Fixed) (Q : Task → Type 0) where
 -- ---- what was begun, was begun however the run goes on
 
 more : (given : Opening) (events : List Event) (event : Event) (t : ℕ) (caller : Identity) (ops : List Op) → WasBegun given events t caller ops → WasBegun given (events ++ event ∷ []) t caller ops
-more given events event t caller ops was = record {
-  agent = was.agent;
-  site = was.site;
-  before = was.before;
-  later = was.later ++ event ∷ [];
-  split = ap (λ all. all ++ event ∷ []) was.split ∙ append_assoc was.before (Begin was.agent (Transaction caller was.site ops) ∷ was.later) (event ∷ []);
-  number = was.number;
-}
+more given events event t caller ops was = search (append_assoc, arith)
 
 module _ (given : Opening) (accepted : IsAccepted given) where
   abbrev fixed : Fixed
@@ -169,8 +153,7 @@ module _ (given : Opening) (accepted : IsAccepted given) where
   begun_from (event ∷ later) events all = subst AllBegun (append_assoc events (event ∷ []) later) (begun_from later (events ++ event ∷ []) (begun_more events event all))
 
   none_at_first : AllBegun []
-  none_at_first n actor there task is =
-      absurd (none-some task (ap (λ (agent : Agent). task_of agent.doing) (sym (actor_opens 0 given.agents n actor there).1) ∙ is))
+  none_at_first n actor there task is = search (none-some, actor_opens, arith)
 
   -- ---- what is decided
 
@@ -185,11 +168,7 @@ module _ (given : Opening) (accepted : IsAccepted given) where
 
   last_begun : (events : List Event) (event : Event) (one : Decided) (o : Option Decided) → decided fixed (run given events) event ≡ o → Contains (cons_option o []) one → WasBegun given (events ++ event ∷ []) one.t one.caller one.ops
   last_begun events event one None is there = absurd (has_from [] one there)
-  last_begun events event one (Some last) is there =
-      ⊎_elim
-      (λ same. more given events event one.t one.caller one.ops (decided_begun events event one (is ∙ ap Some same)))
-      (λ none. absurd none)
-      (has_from (last ∷ []) one there)
+  last_begun events event one (Some last) is there = search (more, decided_begun, has_from, arith)
 
   are_more : (events : List Event) (event : Event) → AreAsBegun given events → AreAsBegun given (events ++ event ∷ [])
   are_more events event are one there =

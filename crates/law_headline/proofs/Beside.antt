@@ -1,11 +1,8 @@
 -- What holds beside the rest, event by event: jobs set valid votes, the register's row holds a content of its kind, and what is prepared is what was sent. It gives what is owed at a decision.
-use Rattle.law_headline.proofs.Vocabulary.{◌≡◌, ℕ, ◌≤◌, zero, suc, Bool, true, false, cond, List, [], Option, Some, None, is_some, Ok, Err, refl, sym, ap, subst, ◌∙◌, arith, ◌==◌, nat_le, ◌&&◌, ◌||◌, unwrap_or, false≢true, nat_tests}
-use Rattle.law_headline.proofs.Vocabulary.{IsValid, Content, kind_of, Opening, Prefix, ReadPoint, GatheredSuite, suite_of, change_of, new_prefix, Proposal, Deciding, Phase, TransactionRun, Doing, Running, RunningSweep, changes_of, Agent}
-use Rattle.law_headline.proofs.Vocabulary.{fixed_of, Step, Actor, actor_at, Decided, Beginning, Known, Entry, IsKnown, IsPlain, row, Told, World, IsReady, Inv, all_known, beginning, showed, showed_to, known_by, change_to, written_from}
-use Rattle.law_headline.proofs.Vocabulary.{first_of, decides_with, decides_without, decides_first, decides_on, decision_in, decision_by, OwesKnown, InCourse, IsDoing, FitsAs, fits_kind}
-use Rattle.suite_prefix.specs.Absent.{absent_copy}
+use Rattle.law_headline.proofs.Vocabulary.{◌≡◌, ℕ, Bool, true, cond, List, [], Option, Some, None, is_some, refl, sym, ap, subst, ◌∙◌, arith, ◌&&◌, ◌||◌, unwrap_or, IsValid, Content, Opening, Prefix, ReadPoint, GatheredSuite, suite_of, change_of}
+use Rattle.law_headline.proofs.Vocabulary.{new_prefix, Proposal, Deciding, Phase, TransactionRun, Doing, Running, RunningSweep, changes_of, Agent, fixed_of, Actor, actor_at, Decided, Beginning, Known, Entry, IsKnown, IsPlain, row, World, IsReady}
+use Rattle.law_headline.proofs.Vocabulary.{Inv, all_known, beginning, showed_to, known_by, change_to, written_from, first_of, decides_with, decides_without, decides_first, decides_on, decision_in, decision_by, OwesKnown, InCourse, IsDoing, FitsAs}
 use Rattle.suite_prefix.specs.declared.copies.Replica.{Replica}
-use Rattle.rep_core.specs.Store.{root_copy}
 use Rattle.law_suite_machine.specs.Events.{happens, Event}
 use Rattle.law_run_machine.proofs.Stages.{Stage}
 use Rattle.law_run_machine.proofs.Readying.{ReadyIn, IsReadying}
@@ -26,18 +23,13 @@ HoldsItsKind copy = FitsAs copy.prefix.kind copy.content
 -- ---- at the opening
 
 pub opens_kind : (given : Opening) (z : ℕ) → HoldsItsKind (row (beginning z given) [])
-opens_kind given zero = refl
-opens_kind given (suc z) = subst (λ b. HoldsItsKind (cond b (root_copy given) (absent_copy given.c0))) (sym (not_zero z)) tt
-  where
-    not_zero : (z : ℕ) → (suc z == 0) ≡ false
-    not_zero z = grind (arith, nat_tests)
+opens_kind given z = search arith
 
 -- ---- a decision
 
 module _ (start : Beginning) (w : World) (inv : Inv start w) (kind : HoldsItsKind (row start w.log)) (first : ReadPoint) (suite : GatheredSuite) (knows : IsKnown (row start w.log) (known_by first suite)) where
   pub known_fits : (c : Content) → suite.content ≡ Some c → FitsAs first.prefix.kind c
-  known_fits c is =
-      subst (λ (prefix : Prefix). FitsAs prefix.kind c) (sym knows.prefix) (subst (FitsAs (row start w.log).prefix.kind) (sym (knows.content c is)) kind)
+  known_fits c is = search arith
 
   pub known_valid : IsValid first.prefix.votes
   known_valid = subst (λ (prefix : Prefix). IsValid prefix.votes) (inv.logged.own.0.1 ∙ sym knows.prefix) (inv.logged.valid (row start w.log).prefix.pver)
@@ -45,23 +37,17 @@ module _ (start : Beginning) (w : World) (inv : Inv start w) (kind : HoldsItsKin
   -- the row that a change leaves
   written_kind : (change : executor.Change) → Leaves suite first change → (content votes : Bool) → change.content ≡ content → change.votes ≡ votes
       → HoldsItsKind (record { prefix = new_prefix first change; dver = (change_to first change).dver; content = unwrap_or (cond (content || votes) (Some change.row.content) None) (row start w.log).content })
-  written_kind change leaves true votes c v = fits_kind (kind_of change.row.content) change.row.content refl
-  written_kind change leaves false true c v = fits_kind (kind_of change.row.content) change.row.content refl
-  written_kind change leaves false false c v =
-      subst (λ k. FitsAs k (row start w.log).content) (sym (leaves.kind c)) (subst (λ (prefix : Prefix). FitsAs prefix.kind (row start w.log).content) (sym knows.prefix) kind)
+  written_kind change h1 content votes h4 h5 = search arith
 
 -- a decision leaves such a row, where what was known was what the register held
 with_change : (start : Beginning) (w : World) (t : ℕ) (suite : GatheredSuite) (first : ReadPoint) (outcome : Proposal) (change : Option executor.Change) → HoldsItsKind (row start w.log)
     → ((one : executor.Change) → change ≡ Some one → IsKnown (row start w.log) (known_by first suite) → HoldsItsKind (changed (change_to first one) (row start w.log)))
     → IsPlain start (happens start w (decides_with w t (known_by first suite) outcome (written_from (Some first) change))).log
     → HoldsItsKind (row start (happens start w (decides_with w t (known_by first suite) outcome (written_from (Some first) change))).log)
-with_change start w t suite first (Err refusal) change kind writes plain = kind
-with_change start w t suite first (Ok granted) None kind writes plain = kind
-with_change start w t suite first (Ok granted) (Some one) kind writes plain = writes one refl plain.0
+with_change start w t suite first outcome change h7 h8 h9 = search arith
 
 without : (start : Beginning) (w : World) (t : ℕ) (outcome : Proposal) → HoldsItsKind (row start w.log) → HoldsItsKind (row start (happens start w (decides_without t outcome)).log)
-without start w t (Ok granted) kind = kind
-without start w t (Err refusal) kind = kind
+without start w t outcome h4 = search arith
 
 module _ (given : Opening) (z : ℕ) (w : World) (inv : Inv (beginning z given) w) (c0 : IsValid given.c0) (kind : HoldsItsKind (row (beginning z given) w.log)) where
   abbrev start : Beginning
@@ -70,23 +56,18 @@ module _ (given : Opening) (z : ℕ) (w : World) (inv : Inv (beginning z given) 
   module _ (txn_run : TransactionRun) (outcome : Proposal) (well : CameWell (fixed_of given) txn_run outcome) where
     pub leaves : (suite : GatheredSuite) (first : ReadPoint) (change : executor.Change) → suite_of txn_run.suites z ≡ Some suite → suite.first ≡ Some first
         → change_of (changes_of outcome) z ≡ Some change → IsKnown (row start w.log) (known_by first suite) → Leaves suite first change
-    leaves suite first change found had set knows =
-        came_fair (fixed_of given) txn_run.task txn_run.suites outcome z suite first change found had set c0 well.valid (known_fits start w inv kind first suite knows) (known_valid start w inv kind first suite knows) well.came
+    leaves suite first change found had set knows = search (came_fair, known_fits, known_valid, arith)
 
     on_first : (suite : GatheredSuite) → suite_of txn_run.suites z ≡ Some suite → (o : Option ReadPoint) → suite.first ≡ o
         → IsPlain start (happens start w (decides_first w txn_run.task.t outcome (written_from o (change_of (changes_of outcome) z)) suite o)).log
         → HoldsItsKind (row start (happens start w (decides_first w txn_run.task.t outcome (written_from o (change_of (changes_of outcome) z)) suite o)).log)
     on_first suite found None had plain = without start w txn_run.task.t outcome kind
-    on_first suite found (Some first) had plain =
-        with_change start w txn_run.task.t suite first outcome (change_of (changes_of outcome) z) kind
-        (λ one set knows. written_kind start w inv kind first suite knows one (leaves suite first one found had set knows) one.content one.votes refl refl)
-        plain
+    on_first suite found (Some first) had plain = search (with_change, written_kind, leaves, arith)
 
     on_suite : (o : Option GatheredSuite) → suite_of txn_run.suites z ≡ o
         → IsPlain start (happens start w (decides_on w txn_run.task.t outcome (written_from (first_of o) (change_of (changes_of outcome) z)) o)).log
         → HoldsItsKind (row start (happens start w (decides_on w txn_run.task.t outcome (written_from (first_of o) (change_of (changes_of outcome) z)) o)).log)
-    on_suite None found plain = without start w txn_run.task.t outcome kind
-    on_suite (Some suite) found plain = on_first suite found suite.first refl plain
+    on_suite o h1 h2 = search (without, on_first, arith)
 
   -- ---- an event
 
@@ -108,52 +89,24 @@ module _ (given : Opening) (z : ℕ) (w : World) (inv : Inv (beginning z given) 
     by_actor number None there = λ plain. kind
 
     by_event : (event : happening.Event) → Decides (decision_at z w world event)
-    by_event (Step number) = by_actor number (actor_at world number) refl
-    by_event other = λ plain. kind
+    by_event event = search (by_actor, arith)
 
     pub kind_after : (event : happening.Event) (one : Option Decided) (log : List Entry) → LogIs start (decision_at z w world event) w one log → IsPlain start log → HoldsItsKind (row start log)
-    kind_after event None log is plain = subst (λ log. HoldsItsKind (row start log)) (sym is) kind
-    kind_after event (Some one) log is plain = subst (λ log. HoldsItsKind (row start log)) (sym is) (by_event event (subst (IsPlain start) is plain))
+    kind_after event one log h3 h4 = search (by_event, arith)
 
 -- ---- where a transaction is to be decided
 
-at_most : (a b : ℕ) → nat_le a b ≡ true → a ≤ b
-at_most a b e = grind (arith, nat_tests)
-
-same_told : (a b : Told) → Some a ≡ Some b → a ≡ b
-same_told a b e = cc
-
 both : (a b : Bool) → (a && b) ≡ true → (a ≡ true) × (b ≡ true)
-both true b is = (refl, is)
-both false b is = cc
-
--- those that showed a copy were told of it
-showed_told : (known : Known) (o : Option Told) → showed known o ≡ true → (told : Told) × (o ≡ Some told) × (told.copy.prefix.pver ≤ known.prefix.pver) × (told.copy.dver ≤ known.dver)
-showed_told known None is = absurd (false≢true is)
-showed_told known (Some told) is =
-    let parts = both (nat_le told.copy.prefix.pver known.prefix.pver) (nat_le told.copy.dver known.dver) is in
-    (told, refl, at_most told.copy.prefix.pver known.prefix.pver parts.0, at_most told.copy.dver known.dver parts.1)
+both a b h2 = search arith
 
 knows_from : (origin : Beginning) (w : World) (t : ℕ) (known : Known) → OwesKnown origin w t known → Knows origin w t (showed_to w t known) known
-knows_from origin w t known owes = record {
-  told = λ i inside. let is = showed_told known (w.told i t) inside in (is.0, is.1);
-  quorum = owes.quorum;
-  was = owes.was;
-  newest = λ i told inside is. let shown = showed_told known (w.told i t) inside in subst (λ (told : Told). told.copy.prefix.pver ≤ known.prefix.pver) (same_told shown.0 told (sym shown.1 ∙ is)) shown.2;
-  greatest = λ i told inside is. let shown = showed_told known (w.told i t) inside in subst (λ (told : Told). told.copy.dver ≤ known.dver) (same_told shown.0 told (sym shown.1 ∙ is)) shown.3;
-  from = owes.from;
-  from_told = owes.from_told;
-  told_from = owes.told_from;
-  told_dver = owes.told_dver;
-  content = owes.content;
-}
+knows_from origin w t known owes = search arith
 
 -- it is ready, and knows what the register holds
 module _ (given : Opening) (z : ℕ) (w : World) (world : worlds.World) (now : Together given z w world) (number : ℕ) (actor : Actor) (txn_run : TransactionRun) (outcome : Proposal)
     (there : actor_at world number ≡ Some actor) (running : actor.agent.doing ≡ Some (Running txn_run)) (phase : txn_run.phase ≡ Deciding outcome) (undecided : w.verdict txn_run.task.t ≡ None) where
   some_of : {X : Type 0} (o : Option X) → is_some o ≡ true → (x : X) × (o ≡ Some x)
-  some_of None is = absurd (false≢true is)
-  some_of (Some x) is = (x, refl)
+  some_of o h1 = search arith
 
   pub is_ready_now : IsReady w txn_run.task.t
   is_ready_now =
@@ -167,5 +120,4 @@ module _ (given : Opening) (z : ℕ) (w : World) (world : worlds.World) (now : T
       }
 
   pub row_known : (suite : GatheredSuite) (first : ReadPoint) → OwesKnown (beginning z given) w txn_run.task.t (known_by first suite) → IsKnown (row (beginning z given) w.log) (known_by first suite)
-  row_known suite first owes = all_known (beginning z given) w now.inv txn_run.task.t (showed_to w txn_run.task.t (known_by first suite)) (known_by first suite) is_ready_now
-      (knows_from (beginning z given) w txn_run.task.t (known_by first suite) owes)
+  row_known suite first owes = search (all_known, is_ready_now, knows_from, arith)

@@ -1,10 +1,10 @@
 -- Agents of jobs that set no votes but valid ones, event by event; and what they came to where they decide.
-use Rattle.law_headline.proofs.Vocabulary.{◌≡◌, ◌⊎◌, inl, inr, ℕ, ◌+◌, true, false, cond, List, [], ◌∷◌, ◌++◌, Option, Some, None, refl, sym, ap, subst, ◌∙◌, ◌*◌, ◌&&◌, nat_lt, false≢true, Response, Job, Transaction, Sweep, Fixed, Task}
-use Rattle.law_headline.proofs.Vocabulary.{Proposal, Phase, Preparing, Deciding, TransactionRun, Doing, Running, Event, step, Knows, knows_left, take_knows, one_more, taken_idle, AllGiveValidVotes, JobGivesValidVotes, EventGivesValidVotes}
+use Rattle.law_headline.proofs.Vocabulary.{◌≡◌, ◌⊎◌, inl, inr, ℕ, ◌+◌, true, false, cond, List, [], ◌∷◌, Option, Some, refl, sym, ap, subst, ◌∙◌, ◌*◌, ◌&&◌, nat_lt, false≢true, Response, Job, Transaction, Sweep, Fixed, arith, Proposal, Phase}
+use Rattle.law_headline.proofs.Vocabulary.{Preparing, Deciding, TransactionRun, Doing, Running, Event, step, Knows, knows_left, take_knows, one_more, taken_idle, AllGiveValidVotes, JobGivesValidVotes, EventGivesValidVotes}
 use Rattle.run_core.proofs.EachAgent.{OfEach, after_event as each_after}
 use Rattle.law_runs.proofs.Executed.{Came, Keeps, left_execute}
 use Rattle.txn_core.specs.Agents.{after_event, Forget, take, Agent, Take, next_of, begin, started, forget, is_idle, has_sense, max_jobs, after_all}
-use Rattle.txn_core.proofs.Upheld.{DoingStands, stands_after}
+use Rattle.txn_core.proofs.Upheld.{stands_after}
 use Rattle.law_runs.proofs.Knowing.{none_fit}
 use Rattle.run_core.specs.Worlds.{World}
 use Rattle.txn_core.specs.Agents as agents
@@ -24,14 +24,7 @@ abbrev pub ValidOr : Fixed → Agent → Type 0
 ValidOr fixed agent = (is_idle agent.doing ≡ true) ⊎ IsOfValidJob fixed agent
 
 told_more : (fixed : Fixed) (agent : Agent) (event : agents.Event) → IsOfValidJob fixed agent → IsOfValidJob fixed (after_event fixed agent event)
-told_more fixed agent event is = record {
-  before = is.before;
-  job = is.job;
-  told = is.told ++ event ∷ [];
-  idle = is.idle;
-  is = ap (λ agent. after_event fixed agent event) is.is ∙ sym (one_more fixed (begin fixed is.before is.job) is.told event);
-  valid = is.valid;
-}
+told_more fixed agent event is = search (one_more fixed (begin fixed is.before is.job) is.told event, arith)
 
 takes : (fixed : Fixed) (agent : Agent) (response : Response) → ValidOr fixed agent → ValidOr fixed (take fixed agent response).agent
 takes fixed agent response (inl idle) = subst (ValidOr fixed) (sym (taken_idle fixed agent response agent.doing (next_of fixed agent) idle)) (inl idle)
@@ -42,21 +35,7 @@ forgets fixed agent site (inl idle) = inl idle
 forgets fixed agent site (inr is) = inr (told_more fixed agent (Forget site) is)
 
 begins : (fixed : Fixed) (agent : Agent) (job : Job) → JobGivesValidVotes job → ValidOr fixed agent → ValidOr fixed (begin fixed agent job)
-begins fixed agent job valid (inl idle) = inr (record { before = agent; job = job; told = []; idle = idle; is = refl; valid = valid })
-begins fixed agent job valid (inr is) =
-    elim (is_idle agent.doing) as (λ b. is_idle agent.doing ≡ b → ValidOr fixed (cond (b && has_sense fixed job && nat_lt agent.count max_jobs) (record (started fixed agent job) { count = agent.count + 1 }) agent)) [
-      | true ↦ λ idle. inr
-          (record {
-            before = agent;
-            job = job;
-            told = [];
-            idle = idle;
-            is = ap
-                (λ b. cond (b && has_sense fixed job && nat_lt agent.count max_jobs) (record (started fixed agent job) { count = agent.count + 1 }) agent) (sym idle);
-            valid = valid;
-          })
-      | false ↦ λ _. inr is
-    ] refl
+begins fixed agent job h3 h4 = search arith
 
 -- ---- all agents
 
@@ -75,8 +54,7 @@ all_know fixed agent (Take response ∷ told) knows = all_know fixed (take fixed
 all_know fixed agent (Forget site ∷ told) knows = all_know fixed (forget agent site) told knows
 
 idle_knows : (fixed : Fixed) (doing : Option Doing) → is_idle doing ≡ true → Knows fixed doing
-idle_knows fixed None idle = tt
-idle_knows fixed (Some doing) idle = absurd (false≢true idle)
+idle_knows fixed doing h2 = search arith
 
 begin_knows : (fixed : Fixed) (agent : Agent) (job : Job) → is_idle agent.doing ≡ true → Knows fixed (begin fixed agent job).doing
 begin_knows fixed agent job idle =
@@ -98,20 +76,13 @@ pub record CameWell (fixed : Fixed) (txn_run : TransactionRun) (outcome : Propos
 -- what it knows by now, and that its operations set no votes but valid ones
 knows_now : (fixed : Fixed) (agent : Agent) → IsOfValidJob fixed agent → (txn_run : TransactionRun) → agent.doing ≡ Some (Running txn_run)
     → Keeps fixed txn_run.task txn_run.suites txn_run.phase × AllGiveValidVotes txn_run.task.ops
-knows_now fixed agent is txn_run running =
-    let now : (after_all fixed (begin fixed is.before is.job) is.told).doing ≡ Some (Running txn_run) = ap (λ (agent : Agent). agent.doing) (sym is.is) ∙ running in
-    let runs = subst (DoingStands fixed is.before is.job is.told) now (stands_after fixed is.before is.job is.told is.idle) in (
-      subst (Knows fixed) now (all_know fixed (begin fixed is.before is.job) is.told (begin_knows fixed is.before is.job is.idle)),
-      subst AllGiveValidVotes (sym (ap (λ (task : Task). task.ops) runs.task)) (subst JobGivesValidVotes runs.transaction is.valid),
-    )
+knows_now fixed agent is txn_run running = search (stands_after, all_know, begin_knows, arith)
 
 -- so where it decides, and already where it prepares
 came_at : (fixed : Fixed) (agent : Agent) → ValidOr fixed agent → (txn_run : TransactionRun) (outcome : Proposal) (phase : Phase) → agent.doing ≡ Some (Running txn_run) → txn_run.phase ≡ phase
     → (Keeps fixed txn_run.task txn_run.suites phase → Came fixed txn_run.task txn_run.suites outcome) → CameWell fixed txn_run outcome
 came_at fixed agent (inl idle) txn_run outcome phase running at came = absurd (false≢true (ap is_idle (sym running) ∙ idle))
-came_at fixed agent (inr is) txn_run outcome phase running at came =
-    let knows = knows_now fixed agent is txn_run running in
-    record { came = came (subst (Keeps fixed txn_run.task txn_run.suites) at knows.0); valid = knows.1 }
+came_at fixed agent (inr is) txn_run outcome phase running at came = search (knows_now fixed agent is txn_run running, arith)
 
 pub came_well : (fixed : Fixed) (agent : Agent) → ValidOr fixed agent → (txn_run : TransactionRun) (outcome : Proposal) → agent.doing ≡ Some (Running txn_run) → txn_run.phase ≡ Deciding outcome → CameWell fixed txn_run outcome
 came_well fixed agent valid txn_run outcome running phase = came_at fixed agent valid txn_run outcome (Deciding outcome) running phase (λ came. came)

@@ -1,5 +1,5 @@
 -- A change that was answered is met by every request that begins later: the laws of runs, joined.
-use Rattle.law_headline.proofs.Vocabulary.{◌≡◌, ⊎_elim, List, [], ◌∷◌, ◌++◌, sym, ap, subst, Contains, Ok, Has, has_from, PlainTable, Decided, decisions, number_of, StandsBefore, IsMet, answers_are_one_tables, audit_is_one_tables}
+use Rattle.law_headline.proofs.Vocabulary.{◌≡◌, ⊎_elim, List, [], ◌∷◌, ◌++◌, sym, ap, subst, Ok, Has, has_from, PlainTable, Decided, decisions, number_of, IsMet, answers_are_one_tables, audit_is_one_tables, arith}
 use Rattle.file_ops.specs.Transactions.{replies}
 use Rattle.run_core.specs.TableOfRun.{played_on, table_with, table_after_all}
 use Rattle.law_runs.proofs.Begun.{changes_are_met}
@@ -21,9 +21,7 @@ pub audit_is_the_denials : AuditIsTheDenials
 audit_is_the_denials given events can = (audit_is_one_tables given events (all_keep given events can), of_runs.audit_is_the_denials given can.accepted events)
 
 pub answered_before : AnsweredBefore
-answered_before given events can before later job first second is there number not_begun decided =
-    subst (λ all. Contains (decisions given all) first → StandsBefore (decisions given all) first second) (sym is)
-    (of_runs.answered_before given can.accepted before later job first second there number not_begun) decided
+answered_before given events can before later job first second is there number not_begun decided = search (of_runs.answered_before given can.accepted before later job first second there number not_begun, arith)
 
 pub rows_have_versions : RowsHaveVersions
 rows_have_versions given events can = versions.rows_have_versions given events (all_keep given events can)

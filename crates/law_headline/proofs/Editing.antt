@@ -1,9 +1,9 @@
 -- What the edits of a transaction set: contents of the kind that was there, and valid votes where its operations set such.
-use Rattle.law_headline.proofs.Vocabulary.{◌≡◌, ℕ, Bool, true, false, cond, List, [], ◌∷◌, Option, Some, None, Ok, Err, refl, sym, ap, subst, ◌∙◌, same_Some, Configuration, IsValid, Identity, Content, Bytes, Names, kind_of, Action, Op, Row}
-use Rattle.law_headline.proofs.Vocabulary.{Edit, SetAcl, SetVotes, SetContent, Make, Edits, seen, emptied, head, content_in, Ended, kind_empty, AreValid, GivesValidVotes, AllGiveValidVotes}
+use Rattle.law_headline.proofs.Vocabulary.{◌≡◌, ℕ, List, [], ◌∷◌, Option, Some, Ok, sym, ap, subst, ◌∙◌, Configuration, IsValid, Identity, Content, kind_of, Action, Op, Row, arith, Edit, SetAcl, SetVotes, SetContent, Make, Edits, seen, content_in}
+use Rattle.law_headline.proofs.Vocabulary.{Ended, AreValid, GivesValidVotes, AllGiveValidVotes}
 use Rattle.file_ops.specs.declared.answer.Answer.{Answer}
 use Rattle.file_ops.specs.declared.service.Service.{Service}
-use Rattle.file_ops.specs.KnownVotes.{lists_unknown, known_votes, votes_of_new}
+use Rattle.file_ops.specs.KnownVotes.{known_votes, votes_of_new}
 use Rattle.file_ops.specs.Operations.{Parent}
 use Rattle.file_ops.specs.Walks.{Object, bytes_in, names_in}
 use Rattle.file_exec.specs.Known.{known_rows, Done, exec_of, Known}
@@ -11,7 +11,6 @@ use Rattle.file_exec.specs.Licensed.{votes_given, IsShown, MayChange, Licensed, 
 use Rattle.file_exec.proofs.Licensing.{holds_there, known_licensed}
 use Rattle.suite_content.specs.declared.content.Kind.TheVariants as holds
 use Rattle.file_ops.specs.declared.operation.Action.TheVariants as action
-use Rattle.file_ops.specs.declared.refusal.Why.TheVariants as why
 
 -- an edit fits the row of its suite
 abbrev pub FitsRow : Edit → Option Row → Type 0
@@ -27,39 +26,25 @@ AllFit rows (e ∷ edits) = FitsRow e.1 (seen edits e.0 (rows e.0)) × AllFit ro
 
 -- ---- kinds
 
-of_bytes : (content : Content) (bytes : List ℕ) → bytes_in content ≡ Ok bytes → kind_of content ≡ holds.File
-of_bytes (Bytes bytes) other is = refl
-of_bytes (Names names) other is = cc
-
 of_names : (content : Content) (names : List (List ℕ × ℕ)) → names_in content ≡ Ok names → kind_of content ≡ holds.Folder
-of_names (Names names) other is = refl
-of_names (Bytes bytes) other is = cc
+of_names content names h2 = search arith
 
 -- ---- votes that are given are valid, and so those that are known
 
 valid_known : (service : Service) (given votes : Configuration) → IsValid given → known_votes service given ≡ Ok votes → IsValid votes
-valid_known service given votes valid = of (lists_unknown service given)
-  where
-    of : (b : Bool) → cond b (Err why.UnknownServer) (Ok given) ≡ Ok votes → IsValid votes
-    of true is = cc
-    of false is = let same : given ≡ votes = cc in subst IsValid same valid
+valid_known service given votes valid = search arith
 
 valid_new : (service : Service) (given : Option Configuration) (votes : Configuration) → IsValid service.c0 → AreValid given → votes_of_new service given ≡ Ok votes → IsValid votes
-valid_new service (Some given) votes c0 valid is = valid_known service given votes valid is
-valid_new service None votes c0 valid is = let same : service.c0 ≡ votes = cc in subst IsValid same c0
+valid_new service given votes h3 h4 h5 = search arith
 
 valid_given : (action : Action) → GivesValidVotes action → AreValid (votes_given action)
-valid_given (action.Make kind init votes) valid = valid
-valid_given (action.SetVotes votes) valid = valid
-valid_given _ valid = tt
+valid_given action h1 = search arith
 
 -- ---- what is licensed
 
 module _ (service : Service) (known : Known) (rows : ℕ → Option Row) (caller : Identity) where
   file_there : (edits : Edits) (place : Object) (bytes : List ℕ) → IsShown rows edits place → bytes_in place.row.content ≡ Ok bytes → (r : Row) → seen edits place.suite (rows place.suite) ≡ Some r → kind_of r.content ≡ holds.File
-  file_there edits place bytes shown is r there =
-      let same : emptied r ≡ place.row = same_Some (emptied r) place.row (sym (ap head there) ∙ shown) in
-      sym (kind_empty (kind_of r.content)) ∙ ap (λ (row : Row). kind_of row.content) same ∙ of_bytes place.row.content bytes is
+  file_there edits place bytes shown is r there = search arith
 
   folder_there : (edits : Edits) (parent : Parent) → MayChange rows caller edits parent → (r : Row) → seen edits parent.place.suite (rows parent.place.suite) ≡ Some r → kind_of r.content ≡ holds.Folder
   folder_there edits parent may r there = of_names r.content parent.names (sym (ap (λ row. names_in (content_in row)) there) ∙ may.names)
@@ -75,12 +60,9 @@ module _ (service : Service) (known : Known) (rows : ℕ → Option Row) (caller
 
   all_fit : (t : ℕ) (ops : List Op) (edits : Edits) → IsValid service.c0 → AllGiveValidVotes ops → AllLicensed service known rows t caller ops edits → AllFit rows edits
   all_fit t ops [] c0 valid all = tt
-  all_fit t ops (e ∷ edits) c0 valid all =
-      let its = all.0 in
-      (fits its.op.action c0 (valid_given its.op.action (holds_there (λ (op : Op). GivesValidVotes op.action) ops its.at its.op its.later valid its.there)) its.licensed, all_fit t ops edits c0 valid all.1)
+  all_fit t ops (e ∷ edits) c0 valid all = search (fits, valid_given, holds_there, all_fit t ops edits c0 valid, arith)
 
 -- where the executor is done, each edit fits the row that it met
 pub edits_fit : (service : Service) (known : Known) (t : ℕ) (caller : Identity) (ops : List Op) (ended : Ended (List Answer)) → IsValid service.c0 → AllGiveValidVotes ops
     → exec_of service known t caller ops ≡ Done (Ok ended) → AllFit (known_rows known) ended.edits
-edits_fit service known t caller ops ended c0 valid is =
-    all_fit service known (known_rows known) caller t ops ended.edits c0 valid (known_licensed service known t caller ops ended is)
+edits_fit service known t caller ops ended c0 valid is = search (all_fit, known_licensed, arith)

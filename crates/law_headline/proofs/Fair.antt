@@ -1,7 +1,7 @@
 -- What a transaction is to write leaves what its operations do not set.
-use Rattle.law_headline.proofs.Vocabulary.{◌≡◌, ℕ, Bool, true, false, cond, List, [], ◌∷◌, Option, Some, None, Ok, Err, refl, sym, ap, subst, ◌∙◌, arith, ◌==◌, ◌||◌, is_some, option_map, Result, nat_cmp, false≢true, eqb-true, nat_tests}
-use Rattle.law_headline.proofs.Vocabulary.{none-some, same_Some, get, IsValid, Content, Bytes, Names, kind_of, Prefix, PrefixKind, Exclusive, Row, touches, Edits, Ended, seen, head, content_in, changes_by_suite, ReadPoint, GatheredSuite}
-use Rattle.law_headline.proofs.Vocabulary.{Suites, suite_of, row_with, known_row, known_of, change_of, prefix_kind, Fixed, Task, Proposal, changes_of, IsFair, FitsAs, is_so, told_as, AllGiveValidVotes}
+use Rattle.law_headline.proofs.Vocabulary.{◌≡◌, ℕ, true, false, cond, List, [], ◌∷◌, Option, Some, None, Ok, refl, sym, ap, subst, ◌∙◌, arith, ◌==◌, ◌||◌, is_some, Result, nat_cmp, false≢true, eqb-true, nat_tests, none-some, same_Some, get, IsValid}
+use Rattle.law_headline.proofs.Vocabulary.{Content, Bytes, Names, kind_of, Prefix, PrefixKind, Exclusive, Row, Edits, Ended, seen, head, changes_by_suite, ReadPoint, GatheredSuite, Suites, suite_of, row_with, known_row, known_of, change_of}
+use Rattle.law_headline.proofs.Vocabulary.{prefix_kind, Fixed, Task, Proposal, changes_of, IsFair, FitsAs, is_so, told_as, AllGiveValidVotes}
 use Rattle.file_ops.specs.declared.answer.Answer.{Answer}
 use Rattle.law_runs.proofs.Executed.{set_by, Came}
 use Rattle.file_ops.specs.declared.refusal.Refusal.{Refusal}
@@ -28,15 +28,7 @@ module _ (suites : Suites) (z : ℕ) (suite : GatheredSuite) (first : ReadPoint)
   rows_with row n = cond (n == z) row (known_rows (known_of suites) n)
 
   agrees_but : (row : Option Row) → IsSo (known_row suite first) row → AgreesWith (known_of suites) (rows_with row)
-  agrees_but row so n =
-      elim (n == z) as (λ b. (n == z) ≡ b → IsSoAt (known.known_of (known_of suites) n) (cond b row (known_rows (known_of suites) n))) [
-        | true ↦ λ same. subst (λ n. IsSoAt (known.known_of (known_of suites) n) row) (sym (eqb-true n z same)) (subst (λ it. IsSoAt it row) (sym (known_at suites z suite first there was)) so)
-        | false ↦ λ _. itself (known.known_of (known_of suites) n)
-      ] refl
-    where
-      itself : (it : Option KnownSuite) → IsSoAt it (known.row_in it)
-      itself (Some it) = record { head = refl; content = λ _. refl }
-      itself None = tt
+  agrees_but row so n = search (eqb-true, known_at, arith)
 
   -- what was known before is so of each row of which what is known now is so
   abbrev IsEarlier : Option KnownSuite → Type 0
@@ -50,8 +42,7 @@ shown suite first = row_with first.prefix.kind first.prefix suite.content
 
 head_before : (suite : GatheredSuite) (first : ReadPoint) (before : Option KnownSuite) → is_held Exclusive before ≡ true
     → ((row : Option Row) → IsSo (known_row suite first) row → IsSoAt before row) → head (known.row_in before) ≡ head (shown suite first)
-head_before suite first None held goes = absurd (false≢true held)
-head_before suite first (Some it) held goes = (goes (shown suite first) (record { head = refl; content = λ _. refl })).head
+head_before suite first before h3 h4 = search arith
 
 -- two contents of a kind, so that a row shows which one it has
 abbrev one_content : PrefixKind → Content
@@ -64,23 +55,13 @@ other_content kind.File = Bytes (0 ∷ [])
 other_content kind.Folder = Names (([], 0) ∷ [])
 
 one_fits : (k : PrefixKind) → FitsAs k (one_content k)
-one_fits kind.Absent = tt
-one_fits _ = refl
+one_fits k = search arith
 
 other_fits : (k : PrefixKind) → FitsAs k (other_content k)
-other_fits kind.Absent = tt
-other_fits _ = refl
-
-files_apart : Bytes [] ≡ Bytes (0 ∷ []) → ⊥
-files_apart is = cc
-
-folders_apart : Names [] ≡ Names (([], 0) ∷ []) → ⊥
-folders_apart is = cc
+other_fits k = search arith
 
 apart : (k : PrefixKind) (prefix : Prefix) (row : Row) → row_with k prefix (Some (one_content k)) ≡ Some row → row_with k prefix (Some (one_content k)) ≡ row_with k prefix (Some (other_content k)) → ⊥
-apart kind.Absent prefix row there same = none-some row there
-apart kind.File prefix row there same = files_apart (ap content_in same)
-apart kind.Folder prefix row there same = folders_apart (ap content_in same)
+apart k prefix row h3 h4 = search arith
 
 -- what would be known with a content, of the row with another
 abbrev SoWith : GatheredSuite → ReadPoint → Option Content → Content → Type 0
@@ -112,15 +93,7 @@ pub record FromEdits (rows : ℕ → Option Row) (z : ℕ) (edits : Edits) (chan
   pub told : told_as edits z row ≡ change
 
 from_edits : (before : known.Known) (edits : Edits) (z : ℕ) (change : executor.Change) → get nat_cmp (changes.changes_of before edits) z ≡ Some change → FromEdits (known_rows before) z edits change
-from_edits before edits z change told = if_touched (touches edits z) (sym (changes_by_suite before edits z) ∙ told)
-  where
-    of : (o : Option Row) → seen edits z (known_rows before z) ≡ o → option_map (told_as edits z) o ≡ Some change → FromEdits (known_rows before) z edits change
-    of (Some row) is told = record { row = row; is = is; told = same_Some (told_as edits z row) change told }
-    of None is told = absurd (none-some change told)
-
-    if_touched : (b : Bool) → cond b (changes.change_of before edits z) None ≡ Some change → FromEdits (known_rows before) z edits change
-    if_touched true told = of (seen edits z (known_rows before z)) refl told
-    if_touched false told = absurd (none-some change told)
+from_edits before edits z change told = search (changes_by_suite, told_as, same_Some, none-some, arith)
 
 -- of a suite that is changed: what is not set stays, and so its kind where no content is set
 pub record Leaves (suite : GatheredSuite) (first : ReadPoint) (change : executor.Change) : Type 0 where
@@ -150,8 +123,7 @@ module _ (fixed : Fixed) (task : Task) (suites : Suites) (outcome : Proposal) (z
   by_result : (before : known.Known) → ((rows : ℕ → Option Row) → AgreesWith (known_of suites) rows → AgreesWith before rows) → (result : Result (Ended (List Answer)) Refusal)
       → exec_of fixed.service before task.t task.caller task.ops ≡ Done result
       → change_of (set_by before result) z ≡ Some change → Leaves suite first change
-  by_result before agrees (Ok ended) done told = by_edits before agrees ended done told
-  by_result before agrees (Err refusal) done told = absurd (none-some change told)
+  by_result before h1 result h3 h4 = search (by_edits, none-some, arith)
 
   pub came_fair : Came fixed task suites outcome → Leaves suite first change
   came_fair came = by_result came.before came.still.agrees came.result came.was (ap (λ all. change_of all z) (sym came.set) ∙ set)

@@ -1,21 +1,20 @@
 -- Each first Current of a suite that a transaction gathers was given by its collector.
-use Rattle.law_headline.proofs.Vocabulary.{◌≡◌, ◌+◌, ◌++◌, append_assoc, ℕ, zero, suc, Bool, true, false, cond, inl, inr, List, [], ◌∷◌, Option, Some, None, Ok, Err, refl, sym, ap, subst, ◌∙◌, append-nil, ◌&&◌, ◌*◌, nat_lt, length}
-use Rattle.law_headline.proofs.Vocabulary.{false≢true, same_Some, Content, Prefix, LockMode, Request, Reply, Verdict, is_prepared, Cache, ReadPoint, GatheredSuite, Suites, suite_of, with_suite, first_or, settled, source_of, Response}
-use Rattle.law_headline.proofs.Vocabulary.{Replied, Lacked, Cause, Lost, Ending, Granted, Fixed, Task, Proposal, Phase, Gathering, Fetching, Widening, Preparing, Deciding, Finishing, Changes, TransactionRun, SweepRun, Doing, Running}
-use Rattle.law_headline.proofs.Vocabulary.{RunningSweep, After, GoesOn, Ends, Job, Transaction, Sweep, Agent, Take, next_in, next_of, take_in, begin, started, is_idle, has_sense, max_jobs, after_all, left, IdleOr, Hears, narrow_of}
+use Rattle.law_headline.proofs.Vocabulary.{◌≡◌, ◌+◌, ◌++◌, append_assoc, ℕ, zero, suc, true, false, cond, inl, inr, List, [], ◌∷◌, Option, Some, None, Ok, Err, refl, sym, ap, subst, ◌∙◌, append-nil, ◌&&◌, ◌*◌, nat_lt, arith, false≢true, same_Some}
+use Rattle.law_headline.proofs.Vocabulary.{Content, Prefix, LockMode, Request, Reply, Verdict, Cache, ReadPoint, GatheredSuite, Suites, suite_of, with_suite, first_or, settled, source_of, Response, Replied, Lacked, Cause, Lost, Ending, Granted}
+use Rattle.law_headline.proofs.Vocabulary.{Fixed, Task, Proposal, Phase, Gathering, Fetching, Widening, Preparing, Deciding, Finishing, Changes, TransactionRun, SweepRun, Doing, Running, RunningSweep, After, GoesOn, Ends, Job, Transaction, Sweep}
+use Rattle.law_headline.proofs.Vocabulary.{Agent, next_in, take_in, begin, started, is_idle, has_sense, max_jobs, after_all, left, IdleOr, Hears, narrow_of}
 use Rattle.file_exec.specs.declared.need.Need.TheVariants.{Know, Hold}
 use Rattle.suite_collect.specs.declared.told.Said.{Said}
-use Rattle.suite_collect.specs.Collecting.{Collector, all_told, told_since, tell_at, tell, mode_of, Next, Ask, Current, Short, Widening as Wider, next}
+use Rattle.suite_collect.specs.Collecting.{Collector, all_told, told_since, tell_at, tell, mode_of, Next, Ask, Current, Short, next}
 use Rattle.txn_core.proofs.Gathers.{Each, each_but, each_with, tell_start}
 use Rattle.law_run_knowledge.proofs.Walk.{IsNarrow}
 use Rattle.law_run_quorums.specs.Firsts.{FirstFrom, early_collector}
 use Rattle.rep_core.specs.declared.stamped.Lack.{Lack}
 use Rattle.file_exec.specs.declared.executor.Outcome.{Outcome as Executed}
-use Rattle.txn_core.specs.Transactions.{Step, Gathered, tell_end, give_up, prepare, locked_at, short_cause, gather_by, widen_by, widen_one, widened, widen_all, opened, or_all, open_needed, open_suite, open_first, opened_with, free_content}
-use Rattle.txn_core.specs.Transactions.{heard_on, raised_or_new, keep_content, heard_of, said_to, proceed, execute, collected, hear, fetched, after_lack, after_response, given_in, lack_cause, verdict_in, ending_by, cause_of_abort}
-use Rattle.txn_core.specs.Agents.{Event, Forget}
+use Rattle.txn_core.specs.Transactions.{Step, Gathered, tell_end, give_up, prepare, locked_at, short_cause, gather_by, widen_by, widen_one, widened, widen_all, opened, or_all, open_needed, open_suite, open_first, opened_with}
+use Rattle.txn_core.specs.Transactions.{heard_on, raised_or_new, keep_content, heard_of, said_to, proceed, execute, collected, hear, fetched, after_lack, after_response, given_in, lack_cause}
+use Rattle.txn_core.specs.Agents.{Event}
 use Rattle.txn_core.proofs.Upheld.{after-append}
-use Rattle.rep_core.specs.declared.reply.Verdict.TheVariants as verdict
 use Rattle.file_exec.specs.declared.executor.Outcome.TheVariants as exec
 use Rattle.suite_collect.specs.declared.told.Told as collect
 -- a suite whose content is fetched has one of a version above 0
@@ -41,12 +40,7 @@ with_first : (number : ℕ) (suite : GatheredSuite) (suites : Suites) → AllFir
 with_first number suite suites all own = each_with (λ number suite. FirstIs suite) number suites suite (each_but (λ number suite. FirstIs suite) number suites all) own
 
 tell_all : (one : collect.Told) (c : Collector) → all_told (tell one c) ≡ one ∷ all_told c
-tell_all one c = of c.widening refl
-  where
-    of : (w : Option Wider) → c.widening ≡ w → all_told (tell one c) ≡ one ∷ all_told c
-    of None is =
-        ap (λ w. all_told (tell_at w one c)) is ∙ ap (λ w. told_since w ++ (one ∷ c.told)) is ∙ ap (λ w. one ∷ (told_since w ++ c.told)) (sym is)
-    of (Some w) is = ap (λ w. all_told (tell_at w one c)) is ∙ ap (λ w. one ∷ (told_since w ++ c.told)) (sym is)
+tell_all one c = search arith
 
 told_first : (one : collect.Told) (suite : GatheredSuite) → FirstIs suite → FirstIs (record suite { collector = tell one suite.collector })
 told_first one suite was first is =
@@ -92,32 +86,25 @@ settled_first prefix dver members suite narrow is was = of suite.first refl
 
 module _ (fixed : Fixed) (task : Task) where
   first_end : (cache : Cache) (suites : Suites) (v : Verdict) (ending : Ending) (servers : List ℕ) → AllFirst suites → Firsts (tell_end task cache suites v ending servers)
-  first_end cache suites v ending [] all = tt
-  first_end cache suites v ending (server ∷ servers) all = all
+  first_end cache suites v ending servers h5 = search arith
 
   first_give_up : (cache : Cache) (suites : Suites) (cause : Cause) → AllFirst suites → Firsts (give_up task cache suites cause)
   first_give_up cache suites cause all = first_end cache suites _ _ (locked_at suites) all
 
   first_prepare : (cache : Cache) (suites : Suites) (outcome : Proposal) (servers : List ℕ) → AllFirst suites → Firsts (prepare task cache suites outcome servers)
-  first_prepare cache suites outcome [] all = all
-  first_prepare cache suites outcome (server ∷ servers) all = all
+  first_prepare cache suites outcome servers h4 = search arith
 
   first_gather : (cache : Cache) (suites : Suites) (number : ℕ) (next : Next) → AllFirst suites → Firsts (gather_by task cache suites number next)
-  first_gather cache suites number (Short got needed busy) all = first_give_up cache suites (short_cause number got needed busy) all
-  first_gather cache suites number _ all = all
+  first_gather cache suites number next h4 = search (first_give_up, arith)
 
   first_widen_by : (cache : Cache) (suites : Suites) (left : List ℕ) (granted : Granted) (number : ℕ) (next : Next) (go_on : Suites → Step) → AllFirst suites
       → ((suites : Suites) → AllFirst suites → Firsts (go_on suites)) → Firsts (widen_by task cache suites (Widening left granted) number next go_on)
-  first_widen_by cache suites left granted number (Current prefix dver members) go_on all more = more suites all
-  first_widen_by cache suites left granted number (Ask server asked) go_on all more = all
-  first_widen_by cache suites left granted number (Short got needed busy) go_on all more = first_give_up cache suites (short_cause number got needed busy) all
+  first_widen_by cache suites left granted number next go_on h7 h8 = search (first_give_up, arith)
 
   first_widen_one : (cache : Cache) (suites : Suites) (left : List ℕ) (granted : Granted) (number : ℕ) (found : Option GatheredSuite) (go_on : Suites → Step)
       → suite_of suites number ≡ found → AllFirst suites → ((suites : Suites) → AllFirst suites → Firsts (go_on suites))
       → Firsts (widen_one task cache suites (Widening left granted) granted.changes number found go_on)
-  first_widen_one cache suites left granted number (Some suite) go_on there all more =
-      let now = widened granted.changes number suite in
-      first_widen_by cache (with_suite number now suites) left granted number (next now.collector) go_on (with_first number now suites all (widened_first granted.changes number suite (all number suite there))) more
+  first_widen_one cache suites left granted number (Some suite) go_on there all more = search (first_widen_by, with_first, widened_first, arith)
   first_widen_one cache suites left granted number None go_on there all more = more suites all
 
   first_widen : (cache : Cache) (suites : Suites) (granted : Granted) (left : List ℕ) → AllFirst suites → Firsts (widen_all task cache suites granted left)
@@ -130,9 +117,7 @@ module _ (fixed : Fixed) (task : Task) where
   first_raised cache number mode None each first is = absurd cc
 
   first_proceed : (cache : Cache) (suites : Suites) (heard : Executed) → AllFirst suites → Firsts (proceed fixed task cache suites heard)
-  first_proceed cache suites (exec.Need (Hold number mode)) all =
-      let suite = raised_or_new fixed task cache number mode (suite_of suites number) in
-      first_gather cache (with_suite number suite suites) number (next suite.collector) (with_first number suite suites all (first_raised cache number mode (suite_of suites number) (all number)))
+  first_proceed cache suites (exec.Need (Hold number mode)) all = search (first_gather, with_first, first_raised, arith)
   first_proceed cache suites (exec.Need (Know number)) all = all
   first_proceed cache suites (exec.Done answers changes) all = first_widen cache suites (record { answers = answers; changes = changes }) _ all
   first_proceed cache suites (exec.Refused refusal) all = first_prepare cache suites (Err refusal) (locked_at suites) all
@@ -140,21 +125,17 @@ module _ (fixed : Fixed) (task : Task) where
   module _ (all : Gathered) (firsts : AllFirst all.suites) where
     with_content : (number : ℕ) (suite : GatheredSuite) (first : ReadPoint) (content : Option Content) (more : Gathered) → suite_of all.suites number ≡ Some suite
         → opened_with task all number suite first content ≡ Some more → AllFirst more.suites
-    with_content number suite first (Some content) more there is =
-        subst (λ (all : Gathered). AllFirst all.suites) (same_Some _ more is) (with_first number (record suite { content = Some content }) all.suites firsts (content_first suite (Some content) (firsts number suite there)))
+    with_content number suite first (Some content) more there is = grind (same_Some, with_first, content_first, arith)
     with_content number suite first None more there is = cc
 
     at_first : (number : ℕ) (suite : GatheredSuite) (first : Option ReadPoint) (more : Gathered) → suite_of all.suites number ≡ Some suite → open_first task all number suite first ≡ Some more → AllFirst more.suites
-    at_first number suite (Some first) more there is = with_content number suite first (free_content task all.cache number first) more there is
-    at_first number suite None more there is = cc
+    at_first number suite first more h4 h5 = search (with_content, arith)
 
     at_suite : (number : ℕ) (found : Option GatheredSuite) (more : Gathered) → suite_of all.suites number ≡ found → open_suite task all number found ≡ Some more → AllFirst more.suites
-    at_suite number (Some suite) more there is = at_first number suite suite.first more there is
-    at_suite number None more there is = cc
+    at_suite number found more h3 h4 = search (at_first, arith)
 
     needed_first : (heard : Executed) (more : Gathered) → open_needed task all heard ≡ Some more → AllFirst more.suites
-    needed_first (exec.Need (Know number)) more is = at_suite number (suite_of all.suites number) more refl is
-    needed_first other more is = cc
+    needed_first heard more h2 = search (at_suite, arith)
 
   opened_first : (n : ℕ) (all : Gathered) → AllFirst all.suites → AllFirst (opened n fixed task all).suites
   opened_first zero all firsts = firsts
@@ -166,9 +147,7 @@ module _ (fixed : Fixed) (task : Task) where
       of None is later = firsts
 
   first_execute : (all : Gathered) → AllFirst all.suites → Firsts (execute fixed task all)
-  first_execute all firsts =
-      let open' = opened (length all.suites) fixed task all in
-      first_proceed open'.cache open'.suites (heard_on fixed task open'.suites) (opened_first (length all.suites) all firsts)
+  first_execute all firsts = search (first_proceed, opened_first, arith)
 
   -- ---- replies
 
@@ -218,13 +197,8 @@ module _ (fixed : Fixed) (task : Task) where
   first_word cache suites (Widening (number ∷ left) granted) server asked (Replied said) narrow all =
       first_heard cache suites (Widening (number ∷ left) granted) number (suite_of suites number) server asked said _ refl (narrow number (inr (left, granted, refl))) all (λ suites all. first_widen cache suites granted left all)
   first_word cache suites (Preparing [] outcome) server asked (Replied said) narrow all = first_give_up cache suites (Lost server) all
-  first_word cache suites (Preparing (now ∷ left) outcome) server asked (Replied said) narrow all = of (is_prepared said)
-    where
-      of : (b : Bool) → Firsts (cond b (prepare task cache suites outcome left) (give_up task cache suites (Lost server)))
-      of true = first_prepare cache suites outcome left all
-      of false = first_give_up cache suites (Lost server) all
-  first_word cache suites (Deciding outcome) server asked (Replied said) narrow all =
-      first_end cache suites (verdict_in said verdict.Aborted) (ending_by (verdict_in said verdict.Aborted) (cause_of_abort said)) (locked_at suites) all
+  first_word cache suites (Preparing (now ∷ left) outcome) server asked (Replied said) narrow all = search (first_prepare, first_give_up, arith)
+  first_word cache suites (Deciding outcome) server asked (Replied said) narrow all = search (first_end, arith)
   first_word cache suites (Finishing [] v ending) server asked (Replied said) narrow all = tt
   first_word cache suites (Finishing (now ∷ left) v ending) server asked (Replied said) narrow all = first_end cache suites v ending left all
 
@@ -236,12 +210,10 @@ DoingFirst (Some (RunningSweep sweep_run)) = Unit {0}
 DoingFirst None = Unit {0}
 
 left_first : (after : After TransactionRun) → AfterFirst after → DoingFirst (left Running after)
-left_first (GoesOn txn_run) all = all
-left_first (Ends ending) all = tt
+left_first after h1 = search arith
 
 round_first : (after : After SweepRun) → DoingFirst (left RunningSweep after)
-round_first (GoesOn sweep_run) = tt
-round_first (Ends ending) = tt
+round_first after = search arith
 
 take_first : (fixed : Fixed) (agent : Agent) (response : Response) → IdleOr fixed agent → (doing : Option Doing) (asked : Option (ℕ × Request)) → agent.doing ≡ doing
     → next_in fixed doing ≡ asked → DoingFirst doing → DoingFirst agent.doing → DoingFirst (take_in fixed agent response doing asked).agent.doing
@@ -254,8 +226,7 @@ take_first fixed agent response job None (Some asked) was is all same = same
 take_first fixed agent response job None None was is all same = same
 
 idle_first : (doing : Option Doing) → is_idle doing ≡ true → DoingFirst doing
-idle_first None idle = tt
-idle_first (Some doing) idle = cc
+idle_first doing h1 = search arith
 
 begin_first : (fixed : Fixed) (agent : Agent) (job : Job) → is_idle agent.doing ≡ true → DoingFirst (begin fixed agent job).doing
 begin_first fixed agent job idle =
@@ -274,10 +245,7 @@ module _ (fixed : Fixed) (agent : Agent) (job : Job) (idle : is_idle agent.doing
   now events = after_all fixed (begin fixed agent job) events
 
   one_first : (events : List Event) (event : Event) → DoingFirst (now events).doing → DoingFirst (now (events ++ event ∷ [])).doing
-  one_first events (Take response) all =
-      subst (λ (agent : Agent). DoingFirst agent.doing) (sym (after-append fixed (begin fixed agent job) events (Take response)))
-      (take_first fixed (now events) response (inr (record { before = agent; job = job; told = events; idle = idle; is = refl })) (now events).doing (next_of fixed (now events)) refl refl all all)
-  one_first events (Forget site) all = subst (λ (agent : Agent). DoingFirst agent.doing) (sym (after-append fixed (begin fixed agent job) events (Forget site))) all
+  one_first events event h2 = search (after-append, take_first, arith)
 
   all_first : (events more : List Event) → DoingFirst (now events).doing → DoingFirst (now (events ++ more)).doing
   all_first events [] all = subst (λ events. DoingFirst (now events).doing) (sym (append-nil events)) all

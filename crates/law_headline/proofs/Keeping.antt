@@ -1,12 +1,12 @@
 -- In every run that there can be agents give what they owe, and keep to their side.
-use Rattle.law_headline.proofs.Vocabulary.{ℕ, inl, List, [], ◌∷◌, refl, sym, subst, AllByRecursion, IsValid, Opening, Agent, fixed_of, step, decided, row, World, begun, beginning, AreOwed, AgentsOwe, actor_opens, owed_is_enough}
-use Rattle.law_headline.proofs.Vocabulary.{EventGivesValidVotes, CanBe, moved, machine_from, machine_of}
+use Rattle.law_headline.proofs.Vocabulary.{ℕ, List, [], ◌∷◌, AllByRecursion, IsValid, Opening, fixed_of, step, decided, row, World, begun, beginning, AreOwed, AgentsOwe, actor_opens, owed_is_enough, arith, EventGivesValidVotes, CanBe, moved}
+use Rattle.law_headline.proofs.Vocabulary.{machine_from, machine_of}
 use Rattle.law_one_table.specs.Tables.{AllKeepSides}
 use Rattle.law_one_table.proofs.Logs.{event_log}
 use Rattle.run_core.specs.declared.event.Event as happening
 use Rattle.run_core.specs.Worlds as worlds
 use Rattle.run_core.specs.Runs as runs
-use Rattle.law_headline.proofs.Carried.{AllValid, ValidOr, event_valid, came_well}
+use Rattle.law_headline.proofs.Carried.{AllValid, event_valid, came_well}
 use Rattle.law_headline.proofs.Together.{Together, opens, goes_on}
 use Rattle.law_headline.proofs.Owing.{Left, owed, owes_known}
 use Rattle.law_headline.proofs.Beside.{HoldsItsKind, opens_kind, leaves, kind_after, row_known}
@@ -19,11 +19,7 @@ pub record Beside (given : Opening) (z : ℕ) (w : World) (world : worlds.World)
   pub kind : HoldsItsKind (row (beginning z given) w.log)  -- and the register's content is of the kind of its prefix
 
 opens_beside : (given : Opening) (z : ℕ) → Beside given z (begun (beginning z given)) (worlds.opening given)
-opens_beside given z = record {
-  prepared = opens_prepared given z;
-  valid = λ n actor there. subst (λ (agent : Agent). ValidOr (fixed_of given) agent) (sym (actor_opens 0 given.agents n actor there).1) (inl refl);
-  kind = opens_kind given z;
-}
+opens_beside given z = search (opens_prepared, actor_opens, opens_kind, arith)
 
 module _ (given : Opening) (c0 : IsValid given.c0) (z : ℕ) (w : World) (world : worlds.World) (now : Together given z w world) (beside : Beside given z w world) where
   left : Left z w world
@@ -59,13 +55,11 @@ hold_from given c0 z w world (event ∷ events) valid now beside =
 
 -- what holds together holds after every run that there can be
 pub holds_after : (given : Opening) (events : List happening.Event) → CanBe given events → (z : ℕ) → Together given z (machine_of given z events) (runs.run given events)
-holds_after given events can z =
-    hold_from given can.c0 z (begun (beginning z given)) (worlds.opening given) events can.votes (opens given z can.c0 can.accepted.some_agents.1 can.accepted.some_servers.1) (opens_beside given z)
+holds_after given events can z = search (hold_from, opens, opens_beside, arith)
 
 -- agents give what they owe
 pub agents_owe : (given : Opening) (events : List happening.Event) → CanBe given events → (z : ℕ) → AgentsOwe given z events
-agents_owe given events can z =
-    owe_from given can.c0 z (begun (beginning z given)) (worlds.opening given) events can.votes (opens given z can.c0 can.accepted.some_agents.1 can.accepted.some_servers.1) (opens_beside given z)
+agents_owe given events can z = search (owe_from, opens, opens_beside, arith)
 
 -- so they keep to their side
 pub all_keep : (given : Opening) (events : List happening.Event) → CanBe given events → AllKeepSides given events

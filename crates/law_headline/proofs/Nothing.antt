@@ -1,7 +1,7 @@
 -- What is not decided changed nothing.
-use Rattle.law_headline.proofs.Vocabulary.{◌≡◌, ◌≢◌, inl, inr, ℕ, ◌==◌, false, cond, List, [], ◌∷◌, ◌++◌, Option, Some, None, refl, sym, ap, subst, ◌∙◌, arith, not, unwrap_or, nat_tests, append-nil, Opening, Content, Prefix, PlainTable}
-use Rattle.law_headline.proofs.Vocabulary.{Row, row_of, Verdict, State, record_of, Has, contains_from, Event, server_at, Decided, decisions, number_of, IsNotDecided, AreTheRecords, record_by, decided_once, decisions_are_the_records}
-use Rattle.law_headline.proofs.Vocabulary.{decisions_go_on, later_decisions, was_answered, servers_of, home_in}
+use Rattle.law_headline.proofs.Vocabulary.{◌≡◌, ◌≢◌, inl, ℕ, ◌==◌, false, List, [], ◌∷◌, ◌++◌, Option, Some, None, refl, sym, ap, subst, ◌∙◌, arith, unwrap_or, nat_tests, append-nil, Opening, Content, Prefix, Row, Verdict, State, record_of, Has}
+use Rattle.law_headline.proofs.Vocabulary.{contains_from, Event, server_at, Decided, decisions, number_of, IsNotDecided, AreTheRecords, record_by, decided_once, decisions_are_the_records, decisions_go_on, later_decisions, was_answered, servers_of}
+use Rattle.law_headline.proofs.Vocabulary.{home_in}
 use Rattle.law_run_machine.proofs.Consistent.{servers_are_consistent}
 use Rattle.rep_core.proofs.Effects.{finish_keeps_effect}
 use Rattle.run_core.specs.TableOfRun.{table_after_all, table_of}
@@ -22,9 +22,7 @@ other a t apart = grind (arith, nat_tests)
 
 all_others : (t : ℕ) (all : List Decided) → ((one : Decided) → Has all one → one.t ≢ t) → of_others t all ≡ all
 all_others t [] apart = refl
-all_others t (one ∷ all) apart =
-    ap (λ b. cond (not b) (one ∷ of_others t all) (of_others t all)) (other one.t t (apart one (inl refl)))
-    ∙ ap (λ all. one ∷ all) (all_others t all (λ one has. apart one (inr has)))
+all_others t (one ∷ all) apart = search (other one.t t (apart one (inl refl)), all_others t all, arith)
 
 module _ (given : Opening) (events : List Event) (t : ℕ) (absent : IsNotDecided (decisions given events) t) where
   table_same : (before later : List Event) → events ≡ before ++ later → table_of given before ≡ table_without given before t
@@ -55,21 +53,11 @@ module _ (given : Opening) (events : List Event) (t : ℕ) (absent : IsNotDecide
   -- ---- what is held
 
   others_had : (z : ℕ) (P : List Event → Row → Type 0) → HadRow given events z P → OthersHad given events t z P
-  others_had z P had = record {
-    before = had.before;
-    later = had.later;
-    parts = had.parts;
-    row = had.row;
-    there = ap (λ (table : PlainTable). row_of table.rows z) (sym (table_same had.before had.later had.parts)) ∙ had.there;
-    is = had.is;
-  }
+  others_had z h1 had = search (table_same, arith)
 
   module _ (at : RowVersions) where
     are_of_others : (z : ℕ) (prefix : Prefix) (dver : ℕ) (content : Content) → PrefixWas given at events z prefix → ContentWas given at events z dver content → AreOfOthers given at events t z prefix dver content
-    are_of_others z prefix dver content first second = record {
-      of_prefix = λ some. others_had z _ (first.had some);
-      of_content = λ some. others_had z _ (second some);
-    }
+    are_of_others z prefix dver content first second = search (others_had, arith)
 
     changed_nothing : AreTheRecords given events → HoldAt given at events → ChangedNothing given at events t
     changed_nothing records hold = record {

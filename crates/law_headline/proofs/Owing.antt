@@ -1,7 +1,7 @@
 -- What is owed where a transaction decides holds, from what holds together and what holds beside it.
-use Rattle.law_headline.proofs.Vocabulary.{◌≡◌, inl, inr, ℕ, IsTrue, Option, Some, None, Ok, Err, refl, sym, ap, subst, ◌∙◌, false≢true, Opening, ReadPoint, GatheredSuite, suite_of, told_in, change_of, part_of, Fixed, Proposal, Deciding}
-use Rattle.law_headline.proofs.Vocabulary.{TransactionRun, Running, changes_of, Agent, fixed_of, is_idle, Actor, actor_at, Beginning, World, holds_exclusively, beginning, known_by, change_to, written_from, first_of, OwesKnown, OwesWritten}
-use Rattle.law_headline.proofs.Vocabulary.{OwesWith, OwesFirst, Owes, Owed, IdleOr, Agrees, DoingAgrees, IsFair, PreparedPart}
+use Rattle.law_headline.proofs.Vocabulary.{◌≡◌, ℕ, IsTrue, Option, Some, None, refl, subst, false≢true, Opening, ReadPoint, GatheredSuite, suite_of, told_in, change_of, part_of, Fixed, Proposal, Deciding, arith, TransactionRun, Running, changes_of}
+use Rattle.law_headline.proofs.Vocabulary.{Agent, fixed_of, Actor, actor_at, Beginning, World, holds_exclusively, beginning, known_by, change_to, written_from, first_of, OwesKnown, OwesWritten, OwesWith, OwesFirst, Owes, Owed, IdleOr, Agrees}
+use Rattle.law_headline.proofs.Vocabulary.{DoingAgrees, IsFair, PreparedPart}
 use Rattle.suite_collect.specs.Collecting.{all_told}
 use Rattle.txn_core.proofs.Quorums.{decides_on_quorums}
 use Rattle.law_run_knowledge.proofs.Decided.{suite_was, known_prefix, known_content, newest_prefix}
@@ -29,16 +29,12 @@ Left z w world =
 -- ready to be decided, as every agent of a job
 is_ready : (fixed : Fixed) (agent : Agent) (z : ℕ) → IdleOr fixed agent → (txn_run : TransactionRun) (outcome : Proposal) → agent.doing ≡ Some (Running txn_run)
     → txn_run.phase ≡ Deciding outcome → (suite : GatheredSuite) → suite_of txn_run.suites z ≡ Some suite → IsReady suite z (changes_of outcome)
-is_ready fixed agent z (inl idle) txn_run outcome running phase suite there = absurd (false≢true (ap is_idle (sym running) ∙ idle))
-is_ready fixed agent z (inr is) txn_run outcome running phase suite there =
-    decides_on_quorums fixed is.before is.job is.told txn_run outcome z suite is.idle (ap (λ (agent : Agent). agent.doing) (sym is.is) ∙ running) phase there
+is_ready fixed agent z h3 txn_run outcome h6 h7 suite h9 = search (false≢true, decides_on_quorums, arith)
 
 -- what is known is owed, and where something is written that
 with_change : (start : Beginning) (w : World) (t : ℕ) (suite : GatheredSuite) (first : ReadPoint) (outcome : Proposal) (change : Option executor.Change) → OwesKnown start w t (known_by first suite)
     → ((one : executor.Change) → change ≡ Some one → OwesWritten start w t (known_by first suite) (change_to first one)) → OwesWith start w t (known_by first suite) outcome (written_from (Some first) change)
-with_change start w t suite first (Err refusal) change known written = known
-with_change start w t suite first (Ok granted) None known written = known
-with_change start w t suite first (Ok granted) (Some one) known written = written one refl
+with_change start w t suite first outcome change h7 h8 = search arith
 
 module _ (given : Opening) (z : ℕ) (w : World) (world : worlds.World) (now : Together given z w world) where
   abbrev start : Beginning
@@ -71,12 +67,10 @@ module _ (given : Opening) (z : ℕ) (w : World) (world : worlds.World) (now : T
 
     on_first : Left z w world → w.verdict t ≡ None → (suite : GatheredSuite) → suite_of txn_run.suites z ≡ Some suite → (o : Option ReadPoint) → suite.first ≡ o
         → OwesFirst start w t outcome (written_from o (change_of (changes_of outcome) z)) suite o
-    on_first left undecided suite found None had = tt
-    on_first left undecided suite found (Some first) had = with_change start w t suite first outcome (change_of (changes_of outcome) z) (owes_known suite found first had) (owes_written left undecided suite found first had)
+    on_first h0 h1 suite h3 o h5 = search (with_change, owes_known, owes_written, arith)
 
     on_suite : Left z w world → w.verdict t ≡ None → (o : Option GatheredSuite) → suite_of txn_run.suites z ≡ o → Owes start w t outcome (written_from (first_of o) (change_of (changes_of outcome) z)) o
-    on_suite left undecided None found = tt
-    on_suite left undecided (Some suite) found = on_first left undecided suite found suite.first refl
+    on_suite h0 h1 o h3 = search (on_first, arith)
 
   pub owed : Left z w world → Owed given z w world
   owed left = record { decides = λ number actor txn_run outcome there running phase undecided. on_suite number actor txn_run outcome there running phase left undecided (suite_of txn_run.suites z) refl }

@@ -1,8 +1,8 @@
 -- What is prepared of a suite at a server is the part that was sent: what a request makes of it, and what an agent's own step does.
-use Rattle.law_headline.proofs.Vocabulary.{◌≡◌, ◌⊎◌, inl, inr, ℕ, ◌<◌, Bool, true, false, cond, List, [], ◌∷◌, Option, Some, None, refl, sym, ap, subst, ◌∙◌, arith, ◌==◌, filter, map, nat_cmp, false≢true, nat_tests, same_Some, max_servers}
-use Rattle.law_headline.proofs.Vocabulary.{get, Shared, Part, Request, Reply, Verdict, is_prepared, Has, holds, Cache, GatheredSuite, Suites, suite_of, holds_lock, told_in, told_at, part_of, parts_at, Response, Replied, Lacked, Cause, Lost}
-use Rattle.law_headline.proofs.Vocabulary.{Ending, Undecided, Changes, Fixed, Task, Proposal, Phase, Gathering, Fetching, Widening, Preparing, Deciding, Finishing, TransactionRun, SweepRun, Doing, Running, RunningSweep, After, GoesOn, Ends}
-use Rattle.law_headline.proofs.Vocabulary.{execute, tell_end, give_up, prepare, locked_at, changes_of, lack_cause, verdict_in, ending_by, cause_of_abort, Agent, next_in, take_in, left, World, itself, PreparedPart, same_or}
+use Rattle.law_headline.proofs.Vocabulary.{◌≡◌, ◌⊎◌, ℕ, ◌<◌, Bool, true, false, cond, List, [], ◌∷◌, Option, Some, None, refl, sym, ap, ◌∙◌, arith, ◌==◌, filter, map, nat_cmp, nat_tests, same_Some, max_servers, get, Shared, Part, Request, Reply}
+use Rattle.law_headline.proofs.Vocabulary.{Verdict, is_prepared, Has, holds, Cache, GatheredSuite, Suites, suite_of, holds_lock, told_in, told_at, part_of, parts_at, Response, Replied, Lacked, Cause, Ending, Undecided, Changes, Fixed, Task, Proposal}
+use Rattle.law_headline.proofs.Vocabulary.{Phase, Gathering, Fetching, Widening, Preparing, Deciding, Finishing, TransactionRun, SweepRun, Doing, Running, RunningSweep, After, execute, tell_end, give_up, prepare, locked_at, changes_of, lack_cause}
+use Rattle.law_headline.proofs.Vocabulary.{verdict_in, ending_by, cause_of_abort, Agent, next_in, take_in, left, World, itself, PreparedPart, same_or}
 use Rattle.std.specs.BTreeMap.{is_at}
 use Rattle.law_run_machine.proofs.Readying.{ReadyIn, IsReadying, ready_begin, readying_left, take_readying}
 use Rattle.rep_core.specs.declared.reply.Reply.TheVariants as reply
@@ -30,19 +30,9 @@ DoingPrepared z w None = Unit {0}
 prepared_same : (w later : World) (t i : ℕ) (part : Part) → later.ready i t ≡ w.ready i t → PreparedPart w t i part → PreparedPart later t i part
 prepared_same w later t i part same is = record { copy = is.copy; is = same ∙ is.is }
 
-pub parts_same : (z : ℕ) (w later : World) (t : ℕ) (suites : Suites) (phase : Phase) → ((i : ℕ) → later.ready i t ≡ w.ready i t) → PartsIn z w t suites phase → PartsIn z later t suites phase
-parts_same z w later t suites (Preparing left outcome) same is = λ i small held. elim (is i small held) [
-  | inl waits ↦ inl waits
-  | inr there ↦ inr (λ suite found. prepared_same w later t i _ (same i) (there suite found))
-]
-parts_same z w later t suites (Deciding outcome) same is = λ i small held suite found. prepared_same w later t i _ (same i) (is i small held suite found)
-parts_same z w later t suites other same is = tt
-
 pub doing_same : (z : ℕ) (w later : World) (doing : Option Doing) → ((txn_run : TransactionRun) → doing ≡ Some (Running txn_run) → (i : ℕ)
     → later.ready i txn_run.task.t ≡ w.ready i txn_run.task.t) → DoingPrepared z w doing → DoingPrepared z later doing
-doing_same z w later (Some (Running txn_run)) same is = parts_same z w later txn_run.task.t txn_run.suites txn_run.phase (same txn_run refl) is
-doing_same z w later (Some (RunningSweep sweep_run)) same is = tt
-doing_same z w later None same is = tt
+doing_same z w later doing h4 h5 = search arith
 
 -- ---- the part of the suite that a Prepare has
 
@@ -67,18 +57,10 @@ module _ (changes : Changes) (z i : ℕ) where
       ] refl is
     where
       here : e.0 ≡ z → e.1 ≡ suite → preparing.part_of z (parts_kept (holds_lock e.1 i) e es) ≡ Some (part_of changes i (z, suite))
-      here key value =
-          ap (λ b. preparing.part_of z (parts_kept b e es)) (ap (λ suite. holds_lock suite i) value ∙ held)
-          ∙ ap (λ b. cond b (Some (part_of changes i e)) (preparing.part_of z (parts_at es changes i))) (itself z e.0 key)
-          ∙ ap (λ n. Some (part_of changes i (n, e.1))) key
-          ∙ ap (λ suite. Some (part_of changes i (z, suite))) value
+      here key value = search (itself, arith)
 
       there : (e.0 == z) ≡ false → preparing.part_of z (parts_at es changes i) ≡ Some (part_of changes i (z, suite)) → preparing.part_of z (parts_kept (holds_lock e.1 i) e es) ≡ Some (part_of changes i (z, suite))
-      there apart rest =
-          elim (holds_lock e.1 i) as (λ b. preparing.part_of z (parts_kept b e es) ≡ Some (part_of changes i (z, suite))) [
-            | true ↦ ap (λ b. cond b (Some (part_of changes i e)) (preparing.part_of z (parts_at es changes i))) apart ∙ rest
-            | false ↦ rest
-          ]
+      there apart rest = search arith
 
 -- where a collector holds a lock
 pub lock_held : (suites : Suites) (z i : ℕ) (suite : GatheredSuite) → suite_of suites z ≡ Some suite → holds Shared (told_at suites z) i ≡ true → holds_lock suite i ≡ true
@@ -92,14 +74,7 @@ unprepared w = record w { ready = λ i t. None }
 
 -- what begins to prepare has each of these servers before it
 from_unprepared : (z : ℕ) (w : World) (doing : Option Doing) → IsReadying z (unprepared w) doing → DoingPrepared z w doing
-from_unprepared z w (Some (Running txn_run)) is = of txn_run.phase is
-  where
-    of : (phase : Phase) → ReadyIn z (unprepared w) txn_run.task.t txn_run.suites phase → PartsIn z w txn_run.task.t txn_run.suites phase
-    of (Preparing left outcome) is = λ i small held. elim (is i small held) [ inl waits ↦ inl waits | inr none ↦ absurd (false≢true none) ]
-    of (Deciding outcome) is = λ i small held. absurd (false≢true (is i small held))
-    of other is = tt
-from_unprepared z w (Some (RunningSweep sweep_run)) is = tt
-from_unprepared z w None is = tt
+from_unprepared z w doing h3 = search arith
 
 pub prepared_begin : (z : ℕ) (w : World) (task : Task) (fixed : Fixed) (cache : Cache) → DoingPrepared z w (left Running (execute fixed task (record { suites = []; cache = cache })).after)
 prepared_begin z w task fixed cache = from_unprepared z w _ (readying_left z (unprepared w) task.t _ (ready_begin z (unprepared w) task fixed cache))
@@ -114,8 +89,7 @@ PreparesPart z w later doing response =
     (before : TransactionRun) (now : ℕ) (left : List ℕ) (outcome : Proposal) → doing ≡ Some (Running before) → before.phase ≡ Preparing (now ∷ left) outcome → response ≡ Replied reply.Prepared → Prepares z w later before outcome now
 
 said_prepared : (said : Reply) → is_prepared said ≡ true → said ≡ reply.Prepared
-said_prepared reply.Prepared is = refl
-said_prepared other is = absurd (false≢true is)
+said_prepared said h1 = search arith
 
 -- in a phase before the servers prepare
 abbrev phase_or : Option Doing → Phase
@@ -124,16 +98,14 @@ phase_or other = Gathering 0
 
 module _ (z : ℕ) (later : World) (task : Task) where
   prepared_end : (cache : Cache) (suites : Suites) (v : Verdict) (ending : Ending) (servers : List ℕ) → DoingPrepared z later (left Running (tell_end task cache suites v ending servers).after)
-  prepared_end cache suites v ending [] = tt
-  prepared_end cache suites v ending (server ∷ servers) = tt
+  prepared_end cache suites v ending servers = search arith
 
   prepared_give_up : (cache : Cache) (suites : Suites) (cause : Cause) → DoingPrepared z later (left Running (give_up task cache suites cause).after)
   prepared_give_up cache suites cause = prepared_end cache suites verdict.Aborted (Undecided cause) (locked_at suites)
 
   prepared_rest : (cache : Cache) (suites : Suites) (outcome : Proposal) (servers : List ℕ) → ((i : ℕ) → i < max_servers → holds Shared (told_at suites z) i ≡ true → Has servers i ⊎ IsPrepared z later task.t suites outcome i)
       → DoingPrepared z later (left Running (prepare task cache suites outcome servers).after)
-  prepared_rest cache suites outcome [] is = λ i small held. elim (is i small held) [ inl none ↦ absurd none | inr there ↦ there ]
-  prepared_rest cache suites outcome (server ∷ servers) is = is
+  prepared_rest cache suites outcome servers h4 = search arith
 
   module _ (w : World) (fixed : Fixed) (agent : Agent) (response : Response) (suites : Suites) (asked : ℕ × Request) where
     abbrev in_phase : Phase → Option Doing
@@ -160,18 +132,7 @@ module _ (z : ℕ) (later : World) (task : Task) where
       where
         of : (response : Response) → (response ≡ Replied reply.Prepared → Prepares z w later (record { task = task; suites = suites; phase = Preparing (first ∷ rest) outcome }) outcome first)
             → DoingPrepared z later (take_in fixed agent response (in_phase (Preparing (first ∷ rest) outcome)) (Some asked)).agent.doing
-        of (Lacked lacked) now = prepared_give_up agent.cache suites (lack_cause asked.0 lacked)
-        of (Replied said) now = elim (is_prepared said) as (λ b. is_prepared said ≡ b → DoingPrepared z later (left Running (cond b (prepare task agent.cache suites outcome rest) (give_up task agent.cache suites (Lost asked.0))).after)) [
-          | true ↦ λ e.
-              let prepares = now (ap Replied (said_prepared said e)) in
-              prepared_rest agent.cache suites outcome rest (λ i small held. same_or (Has rest i ⊎ IsPrepared z later task.t suites outcome i) i first
-              (λ same. inr (subst (λ i. holds Shared (told_at suites z) i ≡ true → IsPrepared z later task.t suites outcome i) (sym same) prepares.here held))
-              (λ apart. elim (parts i small held) [
-                | inl waits ↦ elim waits [ inl same ↦ absurd (apart (sym same)) | inr later ↦ inl later ]
-                | inr there ↦ inr (λ suite found. prepared_same w later task.t i _ (prepares.elsewhere i apart) (there suite found))
-              ]))
-          | false ↦ λ _. prepared_give_up agent.cache suites (Lost asked.0)
-        ] refl
+        of response h1 = grind (prepared_give_up, said_prepared, prepared_rest, same_or, prepared_same, arith)
     parts_response (Deciding outcome) is parts now = of response
       where
         of : (response : Response) → DoingPrepared z later (take_in fixed agent response (in_phase (Deciding outcome)) (Some asked)).agent.doing
@@ -179,8 +140,7 @@ module _ (z : ℕ) (later : World) (task : Task) where
         of (Lacked lacked) = prepared_give_up agent.cache suites (lack_cause asked.0 lacked)
 
 prepared_round : (z : ℕ) (w : World) (after : After SweepRun) → DoingPrepared z w (left RunningSweep after)
-prepared_round z w (GoesOn sweep_run) = tt
-prepared_round z w (Ends ending) = tt
+prepared_round z w after = search arith
 
 -- whatever it is told
 pub take_prepared : (z : ℕ) (w later : World) (fixed : Fixed) (agent : Agent) (response : Response) (doing : Option Doing) (asked : ℕ × Request) → next_in fixed doing ≡ Some asked

@@ -1,5 +1,5 @@
 -- What a world promises, from the laws of its run.
-use Rattle.law_headline.proofs.Vocabulary.{List, [], ◌∷◌, ◌++◌, sym, ap, ◌∙◌, Opening, fixed_of, Event, opening, decided_once, decisions_are_the_records, CanBe, VotesAreValid, after-append}
+use Rattle.law_headline.proofs.Vocabulary.{List, [], ◌∷◌, ◌++◌, Opening, Event, decided_once, decisions_are_the_records, CanBe, VotesAreValid, after-append, arith}
 use Rattle.run_core.specs.Runs.{after}
 use Rattle.run_core.specs.Opened.{Opened}
 use Rattle.law_headline.specs.Promises.{IsPromised, OpensARun, PlaysOn, Promises}
@@ -26,10 +26,7 @@ pub opens : OpensARun
 opens opened accepted c0 is = record { can_be = record { accepted = accepted; c0 = c0; votes = tt }; is = is }
 
 pub goes_on : PlaysOn
-goes_on opened events later world so valid is = record {
-  can_be = record { accepted = so.can_be.accepted; c0 = so.can_be.c0; votes = both events later so.can_be.votes valid };
-  is = is ∙ ap (λ world. after (fixed_of opened.given) world later) so.is ∙ sym (after-append (fixed_of opened.given) (opening opened.given) events later);
-}
+goes_on opened events later world so valid is = search (both, after-append, arith)
 
 -- ---- what is promised
 

@@ -1,7 +1,7 @@
 -- What edits leave of a row that they do not set.
-use Rattle.law_headline.proofs.Vocabulary.{◌≡◌, ℕ, ◌+◌, Bool, true, false, cond, [], ◌∷◌, Option, Some, None, refl, sym, ap, subst, ◌∙◌, arith, ◌==◌, ◌&&◌, ◌||◌, option_map, unwrap_or, false≢true, eqb-true, none-some, same_Some}
-use Rattle.law_headline.proofs.Vocabulary.{Configuration, IsValid, Content, kind_of, empty_content, Prefix, PrefixKind, Row, Edit, SetAcl, SetVotes, SetContent, Make, makes, sets_acl, sets_votes, some, Edits, changed, seen, sets_content}
-use Rattle.law_headline.proofs.Vocabulary.{emptied, head, neither, part_stays, keeps_acl, keeps_votes, ReadPoint, GatheredSuite, row_with, sets_prefix, new_prefix, prefix_kind, one_if, IsFair, FitsAs, told_as, kind_empty}
+use Rattle.law_headline.proofs.Vocabulary.{◌≡◌, ℕ, ◌+◌, Bool, true, false, cond, [], ◌∷◌, Option, Some, None, refl, sym, ap, subst, ◌∙◌, arith, ◌==◌, ◌&&◌, ◌||◌, option_map, unwrap_or, false≢true, eqb-true, none-some, same_Some, Configuration}
+use Rattle.law_headline.proofs.Vocabulary.{IsValid, Content, kind_of, empty_content, Prefix, PrefixKind, Row, Edit, SetAcl, SetVotes, SetContent, Make, makes, sets_acl, sets_votes, some, Edits, changed, seen, sets_content, emptied, head, neither}
+use Rattle.law_headline.proofs.Vocabulary.{part_stays, keeps_acl, keeps_votes, ReadPoint, GatheredSuite, row_with, sets_prefix, new_prefix, prefix_kind, one_if, IsFair, FitsAs, told_as}
 use Rattle.acl_core.specs.declared.lists.Lists.{Lists}
 use Rattle.suite_content.specs.declared.content.Kind.{Kind}
 use Rattle.suite_content.specs.declared.content.Kind.TheVariants as holds
@@ -12,24 +12,13 @@ use Rattle.law_headline.proofs.Editing.{FitsRow, AllFit}
 -- ---- edits, one by one
 
 keeps_content : (edit : Edit) (row : Option Row) → sets_content edit ≡ false → option_map (λ (row : Row). row.content) row ≡ option_map (λ (row : Row). row.content) (changed edit row)
-keeps_content (SetAcl acl) None is = refl
-keeps_content (SetAcl acl) (Some row) is = refl
-keeps_content (SetVotes votes) None is = refl
-keeps_content (SetVotes votes) (Some row) is = refl
-keeps_content (SetContent content) row is = cc
-keeps_content (Make made) row is = cc
+keeps_content edit row h2 = search arith
 
 keeps_owner : (edit : Edit) (row : Option Row) → makes edit ≡ false → option_map (λ (row : Row). row.owner) row ≡ option_map (λ (row : Row). row.owner) (changed edit row)
-keeps_owner (SetAcl acl) (Some row) is = refl
-keeps_owner (Make made) row is = cc
-keeps_owner other None is = refl
-keeps_owner other (Some row) is = refl
+keeps_owner edit row h2 = search arith
 
 keeps_group : (edit : Edit) (row : Option Row) → makes edit ≡ false → option_map (λ (row : Row). row.group) row ≡ option_map (λ (row : Row). row.group) (changed edit row)
-keeps_group (SetAcl acl) (Some row) is = refl
-keeps_group (Make made) row is = cc
-keeps_group other None is = refl
-keeps_group other (Some row) is = refl
+keeps_group edit row h2 = search arith
 
 -- what makes a row sets all of it
 makes_all : (kind : Edit → Bool) → ((edit : Edit) → makes edit ≡ true → kind edit ≡ true) → (edits : Edits) (suite : ℕ) → some kind edits suite ≡ false → some makes edits suite ≡ false
@@ -41,23 +30,16 @@ makes_all kind all (e ∷ edits) suite none =
     ] none
   where
     of : (b : Bool) → makes e.1 ≡ b → kind e.1 ≡ false → some makes edits suite ≡ false → (b || some makes edits suite) ≡ false
-    of true is none rest = absurd (false≢true (sym none ∙ all e.1 is))
-    of false is none rest = rest
+    of b h1 h2 h3 = search (false≢true, arith)
 
 made_acl : (edit : Edit) → makes edit ≡ true → sets_acl edit ≡ true
-made_acl (SetVotes votes) is = cc
-made_acl (SetContent content) is = cc
-made_acl _ is = refl
+made_acl edit h1 = search arith
 
 made_votes : (edit : Edit) → makes edit ≡ true → sets_votes edit ≡ true
-made_votes (SetVotes votes) is = refl
-made_votes (Make made) is = refl
-made_votes _ is = cc
+made_votes edit h1 = search arith
 
 made_content : (edit : Edit) → makes edit ≡ true → sets_content edit ≡ true
-made_content (SetContent content) is = refl
-made_content (Make made) is = refl
-made_content _ is = cc
+made_content edit h1 = search arith
 
 -- ---- edits that fit
 
@@ -66,21 +48,12 @@ abbrev kind_in : Option Row → Option Kind
 kind_in row = option_map (λ (row : Row). kind_of row.content) row
 
 fit_kind : (edit : Edit) (row : Option Row) → FitsRow edit row → makes edit ≡ false → kind_in row ≡ kind_in (changed edit row)
-fit_kind (SetAcl acl) (Some row) fits is = refl
-fit_kind (SetVotes votes) (Some row) fits is = refl
-fit_kind (SetContent content) (Some row) fits is = ap Some (fits row refl)
-fit_kind (Make made) row fits is = cc
-fit_kind other None fits is = refl
+fit_kind edit row h2 h3 = search arith
 
 -- unless the row is made its kind stays
 kind_stays : (rows : ℕ → Option Row) (edits : Edits) (suite : ℕ) → AllFit rows edits → some makes edits suite ≡ false → kind_in (rows suite) ≡ kind_in (seen edits suite (rows suite))
 kind_stays rows [] suite fit none = refl
-kind_stays rows (e ∷ edits) suite fit none =
-    elim (e.0 == suite) as (λ b. (e.0 == suite) ≡ b → ((b && makes e.1) || some makes edits suite) ≡ false → kind_in (rows suite) ≡ kind_in (cond b (changed e.1 (seen edits suite (rows suite))) (seen edits suite (rows suite)))) [
-      | true ↦ λ same none. let both = neither (makes e.1) (some makes edits suite) none in
-          kind_stays rows edits suite fit.1 both.1 ∙ fit_kind e.1 (seen edits suite (rows suite)) (subst (λ suite. FitsRow e.1 (seen edits suite (rows suite))) (eqb-true e.0 suite same) fit.0) both.0
-      | false ↦ λ _ none. kind_stays rows edits suite fit.1 none
-    ] refl none
+kind_stays rows (e ∷ edits) suite fit none = search (neither, fit_kind, eqb-true, kind_stays rows edits suite, arith)
 
 -- the votes of a row are valid
 abbrev pub ValidIn : Option Row → Type 0
@@ -112,18 +85,11 @@ pub record IsHeadOf (k : PrefixKind) (prefix : Prefix) (row : Row) : Type 0 wher
 
 -- of a content that goes with a kind, or of none
 kind_held : (k : Kind) (content : Option Content) → ((c : Content) → content ≡ Some c → kind_of c ≡ k) → kind_of (unwrap_or content (empty_content k)) ≡ k
-kind_held k None fits = kind_empty k
-kind_held k (Some c) fits = fits c refl
+kind_held k content h2 = search arith
 
 head_shown : (k : Kind) (prefix : Prefix) (content : Content) (row : Row) → kind_of content ≡ k
     → emptied row ≡ emptied (record { owner = prefix.owner; group = prefix.group; acl = prefix.acl; votes = prefix.votes; content = content }) → IsHeadOf (prefix_kind k) prefix row
-head_shown k prefix content row fits same = record {
-  kind = ap prefix_kind (sym (kind_empty (kind_of row.content)) ∙ ap (λ (row : Row). kind_of row.content) same ∙ kind_empty (kind_of content) ∙ fits);
-  owner = ap (λ (row : Row). row.owner) same;
-  group = ap (λ (row : Row). row.group) same;
-  acl = ap (λ (row : Row). row.acl) same;
-  votes = ap (λ (row : Row). row.votes) same;
-}
+head_shown k prefix content row fits same = search arith
 
 pub head_of : (k : PrefixKind) (prefix : Prefix) (content : Option Content) (row : Row) → ((c : Content) → content ≡ Some c → FitsAs k c) → head (Some row) ≡ head (row_with k prefix content) → IsHeadOf k prefix row
 head_of kind.Absent prefix content row fits is = absurd (none-some (emptied row) (sym is))
@@ -132,13 +98,7 @@ head_of kind.Folder prefix content row fits is = head_shown holds.Folder prefix 
 
 same_prefix : (p : Prefix) (v : ℕ) (k : PrefixKind) (o g : ℕ) (a : Lists) (c : Configuration) → v ≡ p.pver → k ≡ p.kind → o ≡ p.owner → g ≡ p.group → a ≡ p.acl → c ≡ p.votes
     → record { pver = v; kind = k; owner = o; group = g; acl = a; votes = c } ≡ p
-same_prefix p v k o g a c v_is k_is o_is g_is a_is c_is =
-    ap (λ v. record { pver = v; kind = k; owner = o; group = g; acl = a; votes = c }) v_is
-    ∙ ap (λ k. record { pver = p.pver; kind = k; owner = o; group = g; acl = a; votes = c }) k_is
-    ∙ ap (λ o. record { pver = p.pver; kind = p.kind; owner = o; group = g; acl = a; votes = c }) o_is
-    ∙ ap (λ g. record { pver = p.pver; kind = p.kind; owner = p.owner; group = g; acl = a; votes = c }) g_is
-    ∙ ap (λ a. record { pver = p.pver; kind = p.kind; owner = p.owner; group = p.group; acl = a; votes = c }) a_is
-    ∙ ap (λ c. record { pver = p.pver; kind = p.kind; owner = p.owner; group = p.group; acl = p.acl; votes = c }) c_is
+same_prefix p v k o g a c v_is k_is o_is g_is a_is c_is = search arith
 
 -- ---- a change is fair
 
@@ -202,18 +162,4 @@ module _ (suite : GatheredSuite) (first : ReadPoint) (rows : ℕ → Option Row)
   valid_votes valid = stays_valid rows edits z fit (λ r at. subst IsValid (sym (head_at r at).votes) valid) row is
 
   pub fair : IsValid first.prefix.votes → (change.content ≡ false → change.votes ≡ true → (c : Content) × (suite.content ≡ Some c) × (rows z ≡ row_with first.prefix.kind first.prefix (Some c))) → IsFair suite first change
-  fair valid known = record {
-    prefix = same_head;
-    votes = same_votes;
-    content = λ none votes.
-        let c = known none votes in
-        let was = same_content none in
-        c.1 ∙ ap Some (sym (was.2 ∙ content_shown first.prefix.kind c.0 was.0 (sym c.2 ∙ was.1)));
-    kind = λ none _. content_kind none;
-    valid = valid_votes valid;
-  }
-    where
-      content_shown : (k : PrefixKind) (c : Content) (r : Row) → row_with k first.prefix (Some c) ≡ Some r → r.content ≡ c
-      content_shown kind.Absent c r at = absurd (none-some r at)
-      content_shown kind.File c r at = sym (ap (λ (row : Row). row.content) (same_Some _ r at))
-      content_shown kind.Folder c r at = sym (ap (λ (row : Row). row.content) (same_Some _ r at))
+  fair valid known = search (same_head, same_votes, same_content, content_kind, valid_votes, none-some, same_Some, arith)

@@ -1,16 +1,14 @@
 -- Where a transaction is decided, the locks that it was told of have stood ever since.
-use Rattle.law_headline.proofs.Vocabulary.{◌≡◌, inl, inr, ℕ, Bool, true, false, cond, List, [], ◌∷◌, ◌++◌, append_assoc, Option, Some, None, is_some, refl, sym, ap, subst, ◌∙◌, arith, ◌==◌, ◌&&◌, ◌||◌, find, list_any, false≢true, nat_tests}
-use Rattle.law_headline.proofs.Vocabulary.{none-some, same_Some, Opening, is_exclusive, serves, LockMode, Shared, Exclusive, Prefix, Request, Reply, Verdict, State, record_of, is_full, answer_of, Replied, Lacked, Task, Doing, decision_of}
-use Rattle.law_headline.proofs.Vocabulary.{request_in, Agent, fixed_of, next_in, next_of, Begin, Step, Crash, Return, Forget, Lack, Actor, server_at, actor_at, serve, becomes, answered, asks_at, asks, steps_once, lacks_for, lacks, operated}
-use Rattle.law_headline.proofs.Vocabulary.{operates, step, Decided, answer_in, decided_as, decided_at, decided_by, decided, task_of, task_at, answers_follow_knowledge, Beginning, Hold, Told, World, begun, Obeys, Inv, still_locked, at2}
-use Rattle.law_headline.proofs.Vocabulary.{all_steps, Shows, hold_of, verdict_of, moves, beginning, decision_by, KeepSides, event_comes, run-append, server_there, CanBe, servers_of, home_in, response_events, served_events, answered_events}
-use Rattle.law_headline.proofs.Vocabulary.{asked_at_events, asked_events, step_events, operated_events, operator_events, events_of, moved, machine_from, machine_of}
+use Rattle.law_headline.proofs.Vocabulary.{◌≡◌, ℕ, Bool, true, false, cond, List, [], ◌∷◌, ◌++◌, append_assoc, Option, Some, None, is_some, refl, sym, ap, subst, ◌∙◌, arith, ◌==◌, ◌&&◌, ◌||◌, find, list_any, nat_tests, none-some, same_Some, Opening}
+use Rattle.law_headline.proofs.Vocabulary.{is_exclusive, serves, LockMode, Prefix, Request, State, Lacked, Doing, decision_of, request_in, Agent, fixed_of, next_in, next_of, Step, Actor, actor_at, becomes, answered, asks_at, asks, steps_once, lacks}
+use Rattle.law_headline.proofs.Vocabulary.{operated, operates, step, Decided, decided, answers_follow_knowledge, Beginning, World, begun, Obeys, Inv, still_locked, all_steps, Shows, hold_of, moves, beginning, KeepSides, event_comes, run-append}
+use Rattle.law_headline.proofs.Vocabulary.{CanBe, servers_of, home_in, served_events, answered_events, asked_at_events, asked_events, step_events, operated_events, operator_events, events_of, moved, machine_from, machine_of}
 use Rattle.law_run_machine.proofs.Consistent.{AllConsistent}
 use Rattle.rep_core.specs.declared.lock.Lock.{Lock}
 use Rattle.rep_core.specs.Locks.{is_own}
 use Rattle.run_core.specs.declared.done.Served.{Served}
 use Rattle.law_runs.specs.Answers.{IsAnsweredAsKnown}
-use Rattle.law_suite_machine.specs.Events.{Held, Upgrade, upgraded_told, happens, run, Event}
+use Rattle.law_suite_machine.specs.Events.{Held, happens, run, Event}
 use Rattle.law_suite_machine.proofs.Sound.{Sound}
 use Rattle.law_run_machine.proofs.Decided.{some_of}
 use Rattle.law_headline.specs.Laws.{AsksForLock, TellsOfLock, LocksStand}
@@ -32,14 +30,6 @@ obeys_first start w (event ∷ first) later obeys =
     let rest = obeys_first start (happens start w event) first later obeys.1 in
     ((obeys.0, rest.0), rest.1)
 
--- it is told of an upgraded lock of which it was told before
-upgraded_now : (w : World) → Sound w → (wanted : Bool) (i t : ℕ) (lock : Hold) → w.lock i t ≡ Some lock → ToldMode wanted (upgraded_told (w.told i t))
-upgraded_now w sound wanted i t lock stands = of (w.told i t) refl
-  where
-    of : (o : Option Told) → w.told i t ≡ o → ToldMode wanted (upgraded_told o)
-    of (Some told) is = λ _. refl
-    of None is = absurd (none-some lock (sym (sound.asked i t is) ∙ stands))
-
 module _ (given : Opening) (z : ℕ) (w : World) (sound : Sound w) (world : worlds.World) (t : ℕ) (mode : LockMode) (prefix : Prefix) (dver : ℕ) where
   abbrev start : Beginning
   start = beginning z given
@@ -50,27 +40,9 @@ module _ (given : Opening) (z : ℕ) (w : World) (sound : Sound w) (world : worl
   self : (n : ℕ) → (n == n) ≡ true
   self n = grind (arith, nat_tests)
 
-  -- what Held is to the machine
-  abbrev held_moves : Event → ℕ → Request → List Event
-  held_moves decision i asked = moves z (home_in given) decision i w asked (reply.Held prefix dver)
-
-  told_held : (decision : Event) (i : ℕ) (asked : Request) → AsksForLock t z mode asked → Obeys start w (held_moves decision i asked) → IsTold (run start w (held_moves decision i asked)) i
-  told_held decision i asked (inl polled) obeys =
-      subst (λ asked. IsTold (run start w (held_moves decision i asked)) i) (sym polled)
-      (subst (λ b. IsTold (run start w (cond b (Held i t (is_exclusive mode) ∷ []) [])) i) (sym (self z))
-      (at2 (ToldMode (is_exclusive mode)) w.told i t _ i t (λ _ is. is) (λ other. absurd (other (refl, refl)))))
-  told_held decision i asked (inr raised) obeys =
-      let may = subst (λ b. Obeys start w (cond b (Upgrade i t ∷ []) [])) (self z) (subst (λ asked. Obeys start w (held_moves decision i asked)) raised.0 obeys) in
-      subst (λ asked. IsTold (run start w (held_moves decision i asked)) i) (sym raised.0)
-      (subst (λ b. IsTold (run start w (cond b (Upgrade i t ∷ []) [])) i) (sym (self z))
-      (at2 (ToldMode (is_exclusive mode)) w.told i t (upgraded_told (w.told i t)) i t (λ _. upgraded_now w sound (is_exclusive mode) i t may.0.lock may.0.stands) (λ other. absurd (other (refl, refl)))))
-
   told_once : (doing : Option Doing) (what : Served) → AsksForLock t z mode what.request.value → what.reply.value ≡ reply.Held prefix dver
       → Obeys start w (served_events given z w doing what) → IsTold (run start w (served_events given z w doing what)) what.server
-  told_once doing what asked said obeys =
-      let decision = decision_by z w doing in
-      subst (λ said. IsTold (run start w (moves z (home_in given) decision what.server w what.request.value said)) what.server) (sym said)
-      (told_held decision what.server what.request.value asked (subst (λ said. Obeys start w (moves z (home_in given) decision what.server w what.request.value said)) said obeys))
+  told_once doing what asked said obeys = search arith
 
   told_served : (doing : Option Doing) (what : Served) (later : List Event) → AsksForLock t z mode what.request.value → what.reply.value ≡ reply.Held prefix dver → Obeys start w (served_events given z w doing what ++ later)
       → IsTold (run start w (served_events given z w doing what ++ later)) what.server
@@ -85,55 +57,31 @@ module _ (given : Opening) (z : ℕ) (w : World) (sound : Sound w) (world : worl
       (what : Served) → served ≡ Some what → AsksForLock t z mode what.request.value → what.reply.value ≡ reply.Held prefix dver → Obeys start w events → IsTold (run start w events) what.server
 
   at_served : (number : ℕ) (actor : Actor) (st : State) (what : Option Served) → TellsIt (answered (fixed_of given) world number actor st what).done.served (answered_events given z w actor what)
-  at_served number actor st (Some this) what is =
-      subst
-      (λ (it : Served). AsksForLock t z mode it.request.value → it.reply.value ≡ reply.Held prefix dver → Obeys start w (answered_events given z w actor (Some this))
-      → IsTold (run start w (answered_events given z w actor (Some this))) it.server)
-      (same_Some this what is) (told_served actor.agent.doing this (response_events given z actor (Replied this.reply.value)))
-  at_served number actor st None what is = absurd (none-some what is)
+  at_served number actor st what h4 h5 = search (same_Some, told_served, none-some, arith)
 
   at_server : (number : ℕ) (actor : Actor) (asked : ℕ × Request) (found : Option State) → TellsIt (asks_at (fixed_of given) world number actor asked found).done.served (asked_at_events given z w actor asked found)
-  at_server number actor asked (Some st) = at_served number actor st (serve asked.0 st (record { stamp = actor.stamp; value = asked.1 }))
-  at_server number actor asked None = λ what is. absurd (none-some what is)
+  at_server number actor asked found = search (at_served, none-some, arith)
 
   at_asked : (number : ℕ) (actor : Actor) (asked : Option (ℕ × Request)) → TellsIt (asks (fixed_of given) world number actor asked).done.served (asked_events given z w world actor asked)
-  at_asked number actor (Some asked) = at_server number actor asked (server_at world asked.0)
-  at_asked number actor None = λ what is. absurd (none-some what is)
+  at_asked number actor asked = search (at_server, none-some, arith)
 
   at_step : (number : ℕ) (found : Option Actor) → TellsIt (steps_once (fixed_of given) world number found).done.served (step_events given z w world found)
-  at_step number (Some actor) = at_asked number actor (next_of (fixed_of given) actor.agent)
-  at_step number None = λ what is. absurd (none-some what is)
+  at_step number found = search (at_asked, none-some, arith)
 
   at_operated : (asked : Request) (st : State) (what : Option Served) → TellsIt (operated world st what).done.served (operated_events given z w what)
-  at_operated asked st (Some this) what is =
-      subst
-      (λ (it : Served). AsksForLock t z mode it.request.value → it.reply.value ≡ reply.Held prefix dver → Obeys start w (served_events given z w None this) → IsTold (run start w (served_events given z w None this)) it.server)
-      (same_Some this what is) (told_once None this)
-  at_operated asked st None what is = absurd (none-some what is)
+  at_operated asked st what h3 h4 = search arith
 
   at_operator : (i : ℕ) (asked : Request) (found : Option State) → TellsIt (operates world i asked found).done.served (operator_events given z w i asked found)
-  at_operator i asked (Some st) = at_operated asked st (serve i st (record { stamp = 0; value = asked }))
-  at_operator i asked None = λ what is. absurd (none-some what is)
+  at_operator i asked found = search (at_operated, none-some, arith)
 
   becomes_none : (number : ℕ) (change : Agent → Agent) (found : Option Actor) → (becomes world number change found).done.served ≡ None
-  becomes_none number change (Some actor) = refl
-  becomes_none number change None = refl
+  becomes_none number change found = search arith
 
   lacks_none : (number : ℕ) (why : _) (found : Option Actor) → (lacks (fixed_of given) world number (Lacked why) found).done.served ≡ None
-  lacks_none number why None = refl
-  lacks_none number why (Some actor) = of (next_of (fixed_of given) actor.agent)
-    where
-      of : (asked : Option (ℕ × Request)) → (lacks_for (fixed_of given) world number actor (Lacked why) asked).done.served ≡ None
-      of (Some asked) = refl
-      of None = refl
+  lacks_none number why found = search arith
 
   told_in_event : (event : happening.Event) → TellsIt (step (fixed_of given) world event).done.served (events_of given z w world event)
-  told_in_event (Step number) = at_step number (actor_at world number)
-  told_in_event (Crash server) = at_operator server request.Crash (server_at world server)
-  told_in_event (Return server) = at_operator server request.Return (server_at world server)
-  told_in_event (Begin number job) = λ what is. absurd (none-some what (sym (becomes_none number _ (actor_at world number)) ∙ is))
-  told_in_event (Forget number site) = λ what is. absurd (none-some what (sym (becomes_none number _ (actor_at world number)) ∙ is))
-  told_in_event (Lack number why) = λ what is. absurd (none-some what (sym (lacks_none number why (actor_at world number)) ∙ is))
+  told_in_event event = search (at_step, at_operator, none-some, becomes_none, lacks_none, arith)
 
 -- ---- later on
 
@@ -184,10 +132,7 @@ keeps_later given z w world (event ∷ events) later keeps = keeps_later given z
 module _ (given : Opening) (z : ℕ) (w : World) (world : worlds.World) (shows : Shows z (home_in given) (servers_of given world) w) (number : ℕ) (one : Decided)
     (is : decided (fixed_of given) world (Step number) ≡ Some one) (so : IsAnsweredAsKnown given world (Step number) one) where
   same_number : so.number ≡ number
-  same_number = of so.number number (sym so.step)
-    where
-      of : (a b : ℕ) → Step a ≡ Step b → a ≡ b
-      of a b same = cc
+  same_number = search arith
 
   there : actor_at world number ≡ Some so.actor
   there = ap (actor_at world) (sym same_number) ∙ so.there
@@ -198,45 +143,13 @@ module _ (given : Opening) (z : ℕ) (w : World) (world : worlds.World) (shows :
   asked : next_of (fixed_of given) so.actor.agent ≡ Some (home_in given t, request.Decide t (decision_of so.txn_run.task so.outcome))
   asked = ap (next_in (fixed_of given)) so.running ∙ ap (request_in (fixed_of given) so.txn_run.task so.txn_run.suites) so.deciding
 
-  no_record : (st : State) (task : Option Task) (said : Reply) → decided_at (Some st) (Some t) (decided_as task (answer_in said)) ≡ Some one → record_of st t ≡ None
-  no_record st task said = of (record_of st t)
-    where
-      of : (found : Option Verdict) → cond (is_some found) None (decided_as task (answer_in said)) ≡ Some one → found ≡ None
-      of (Some v) is = absurd (none-some one is)
-      of None is = refl
-
-  by_server : (task : Option Task) (found : Option State) → server_at world (home_in given t) ≡ found
-      → decided_by world task (asks_at (fixed_of given) world number so.actor (home_in given t, request.Decide t (decision_of so.txn_run.task so.outcome)) found).done.served ≡ Some one → w.verdict t ≡ None
-  by_server task None at is = absurd (none-some one is)
-  by_server task (Some st) at is = of (is_full st (record { stamp = so.actor.stamp; value = request.Decide t (decision_of so.txn_run.task so.outcome) })) is
-    where
-      of : (full : Bool)
-          → decided_by world task (answered (fixed_of given) world number so.actor st
-          (cond full None
-          (Some (record {
-            server = home_in given t;
-            request = record { stamp = so.actor.stamp; value = request.Decide t (decision_of so.txn_run.task so.outcome) };
-            reply = answer_of st (record { stamp = so.actor.stamp; value = request.Decide t (decision_of so.txn_run.task so.outcome) });
-          })))).done.served ≡ Some one
-          → w.verdict t ≡ None
-      of true is = absurd (none-some one is)
-      of false is =
-          shows.verdict t ∙ ap (λ st. verdict_of (record_of st t)) (server_there given world (home_in given t) st at)
-          ∙ ap verdict_of (no_record st task (answer_of st (record { stamp = so.actor.stamp; value = request.Decide t (decision_of so.txn_run.task so.outcome) })).value
-          (sym (ap (λ found. decided_at found (Some t) (decided_as task (answer_in (answer_of st (record { stamp = so.actor.stamp; value = request.Decide t (decision_of so.txn_run.task so.outcome) })).value))) at) ∙ is))
-
   pub undecided : w.verdict t ≡ None
-  undecided =
-      by_server (task_of so.actor.agent.doing) (server_at world (home_in given t)) refl
-      (sym (ap (λ asked. decided_by world (task_of so.actor.agent.doing) (asks (fixed_of given) world number so.actor asked).done.served) asked)
-      ∙ sym (ap (λ found. decided_by world (task_at found) (steps_once (fixed_of given) world number found).done.served) there) ∙ is)
+  undecided = search arith
 
 -- ---- the law
 
 serves_it : (have wanted : LockMode) → (is_exclusive wanted ≡ true → is_exclusive have ≡ true) → serves have wanted ≡ true
-serves_it Exclusive wanted is = refl
-serves_it Shared Shared is = refl
-serves_it Shared Exclusive is = absurd (false≢true (is refl))
+serves_it have wanted h2 = search arith
 
 found_serving : (p : Lock → Bool) (mode : LockMode) (locks : List Lock) → HoldsMode (is_exclusive mode) (hold_of (find p locks)) → list_any (λ lock. p lock && serves lock.mode mode) locks ≡ true
 found_serving p mode [] is = absurd is

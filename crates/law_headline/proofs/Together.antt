@@ -1,6 +1,6 @@
 -- What holds together of a world and of the machine of a suite, as long as agents give what they owe: at the opening, and event by event.
-use Rattle.law_headline.proofs.Vocabulary.{ℕ, ◌≤◌, sym, subst, Opening, IsValid, max_servers, fixed_of, step, World, begun, Inv, all_steps, Shows, beginning, KeepsSide, Owed, servers_open, event_comes, AllLinked, Readied, ready_next}
-use Rattle.law_headline.proofs.Vocabulary.{event_all, next, opens_linked, opens_waiting, opens_readied, AllFit, event_fits, opens_fit, AllAgree, opens as jobs_open, servers_of, home_in, events_of, moved}
+use Rattle.law_headline.proofs.Vocabulary.{ℕ, ◌≤◌, sym, subst, Opening, IsValid, max_servers, fixed_of, step, World, begun, Inv, all_steps, Shows, beginning, KeepsSide, Owed, servers_open, event_comes, AllLinked, Readied, ready_next, event_all, next}
+use Rattle.law_headline.proofs.Vocabulary.{opens_linked, opens_waiting, opens_readied, AllFit, event_fits, opens_fit, AllAgree, opens as jobs_open, servers_of, home_in, events_of, moved}
 use Rattle.law_run_machine.proofs.Consistent.{AllConsistent, opening_consistent}
 use Rattle.law_suite_machine.proofs.Starting.{begins}
 use Rattle.law_server_moves.proofs.Opening.{opening_shows}

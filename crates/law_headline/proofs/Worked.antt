@@ -1,7 +1,7 @@
 -- They can be, and the rest holds by computation.
-use Rattle.law_headline.proofs.Vocabulary.{◌≡◌, inl, inr, ℕ, ◌<◌, Bool, true, List, [], ◌∷◌, Option, Some, None, is_some, refl, sym, ap, ◌∙◌, subst, arith, lit<, nat_lt, ◌&&◌, not, AllByRecursion, list_all, nat_cmp, and_parts, false≢true}
-use Rattle.law_headline.proofs.Vocabulary.{nat_tests, All-from_recursion, Configuration, Representative, IsValid, first_fault, max_servers, IsAccepted, Shared, Prefix, Action, Op, row_of, Transaction, Event, Begin, decisions}
-use Rattle.law_headline.proofs.Vocabulary.{GivesValidVotes, EventGivesValidVotes, VotesAreValid}
+use Rattle.law_headline.proofs.Vocabulary.{◌≡◌, inl, inr, ℕ, ◌<◌, Bool, true, List, [], ◌∷◌, Option, Some, None, is_some, refl, sym, ap, ◌∙◌, subst, arith, lit<, nat_lt, ◌&&◌, not, AllByRecursion, list_all, nat_cmp, and_parts, false≢true, nat_tests}
+use Rattle.law_headline.proofs.Vocabulary.{All-from_recursion, Configuration, Representative, IsValid, first_fault, max_servers, IsAccepted, Shared, Prefix, Action, Op, row_of, Transaction, Event, Begin, decisions, GivesValidVotes}
+use Rattle.law_headline.proofs.Vocabulary.{EventGivesValidVotes, VotesAreValid}
 use Rattle.std.specs.FinSet.{contains-empty}
 use Rattle.vote_core.specs.declared.fault.VotesFault.{VotesFault}
 use Rattle.vote_core.proofs.Faults.{accepted_without_fault}

@@ -1,45 +1,26 @@
 -- What is in effect at the servers is what the machines of the suites have in effect.
-use Rattle.law_one_table.proofs.Vocabulary.{nat_cmp, none-some, same_Some, get, Configuration, Content, kind_of, Opening, Prefix, PrefixKind, Replica, Row, copy_of, left_by, record_of, row_with, prefix_kind, fixed_of, opening, step}
-use Rattle.law_one_table.proofs.Vocabulary.{Beginning, prefix_at, World, IsQuorum, effect, is_answered, begun, Event, happens, run, quorums_show, superseded, what_was_stays, Shows, plan_of, verdict_of, beginning, servers_of, home_in}
-use Rattle.law_one_table.proofs.Vocabulary.{events_of, moved, machine_from, history_from, machine_of, history_of, run-append, machines_follow, register, AllKeepSides, was_answered, answered_in, copy_at, HasOne, HasHead, IsInEffect}
-use Rattle.std.proofs.Common.{◌≡◌, ℕ, ◌<◌, ◌≤◌, Bool, cond, List, [], ◌∷◌, ◌++◌, append_assoc, Option, Some, None, refl, sym, ap, subst, ◌∙◌}
-use Rattle.rep_core.specs.Intentions.{Intention}
+use Rattle.law_one_table.proofs.Vocabulary.{Configuration, Content, kind_of, Opening, Prefix, PrefixKind, Replica, Row, row_with, prefix_kind, fixed_of, opening, step, arith, Beginning, prefix_at, World, IsQuorum, effect, begun, Event, happens, run}
+use Rattle.law_one_table.proofs.Vocabulary.{quorums_show, superseded, what_was_stays, Shows, beginning, servers_of, home_in, events_of, moved, machine_from, history_from, machine_of, history_of, run-append, machines_follow, register, AllKeepSides}
+use Rattle.law_one_table.proofs.Vocabulary.{copy_at, HasOne, HasHead, IsInEffect}
+use Rattle.std.proofs.Common.{◌≡◌, ℕ, ◌<◌, ◌≤◌, Bool, List, [], ◌∷◌, ◌++◌, append_assoc, Some, refl, sym, ap, subst, ◌∙◌}
 use Rattle.law_suite_machine.specs.Conditions.{Obeys}
 use Rattle.law_suite_machine.specs.Laws.{QuorumsShowRow, Stays}
 use Rattle.law_suite_machine.proofs.Invariant.{Inv}
 use Rattle.law_suite_machine.proofs.Starting.{begins}
 use Rattle.law_suite_machine.proofs.Steps.{all_steps}
 use Rattle.law_run_machine.specs.Laws.{Follows}
-use Rattle.rep_core.specs.declared.reply.Verdict.{Verdict}
-use Rattle.suite_prefix.specs.declared.copies.PrefixKind.TheVariants as kind
-use Rattle.rep_core.specs.declared.reply.Verdict.TheVariants as verdict
-use Rattle.rep_core.specs.Store as store
 use Rattle.run_core.specs.declared.event.Event as happening
 use Rattle.run_core.specs.Worlds as worlds
 use Rattle.run_core.specs.Runs as runs
-use Rattle.law_suite_machine.specs.Machine as machine
 use Rattle.law_suite_machine.specs.Laws as laws
 use Rattle.law_one_table.proofs.Shown.{FitsAs}
 use Rattle.law_one_table.proofs.Running.{earlier}
 
 -- ---- the copy in effect
 
-answered_is : (found : Option Verdict) → is_answered (verdict_of found) ≡ was_answered found
-answered_is (Some (verdict.Answered answers)) = refl
-answered_is None = refl
-answered_is (Some other) = refl
-
 module _ (given : Opening) (events : List happening.Event) (z : ℕ) (w : World) (shows : Shows z (home_in given) (servers_of given (runs.run given events)) w) where
-  plans : (found : Option Intention) (copy : Replica) → machine.in_effect w.verdict (plan_of found copy) copy ≡ store.in_effect found (answered_in given events) copy
-  plans None copy = refl
-  plans (Some intention) copy = ap (λ b. cond b (left_by intention.take copy) copy) (ap is_answered (shows.verdict intention.t) ∙ answered_is (record_of (servers_of given (runs.run given events) (home_in given intention.t)) intention.t))
-
   pub effect_is : (i : ℕ) → effect w i ≡ copy_at given events z i
-  effect_is i =
-      let st = servers_of given (runs.run given events) i in
-      ap (λ plan. machine.in_effect w.verdict plan (w.copy i)) (shows.at i).plan
-      ∙ ap (λ copy. machine.in_effect w.verdict (plan_of (get nat_cmp st.store.intentions z) (copy_of st.store z)) copy) (shows.at i).copy
-      ∙ plans (get nat_cmp st.store.intentions z) (copy_of st.store z)
+  effect_is i = search arith
 
   pub has_one : (set : ℕ → Bool) (P : Replica → Type 0) → laws.Shows w set P → HasOne given events z set P
   has_one set P shown = record { server = shown.server; inside = shown.inside; is = subst P (effect_is shown.server) shown.is }
@@ -55,22 +36,10 @@ pub record IsOfRow (k : PrefixKind) (prefix : Prefix) (content : Content) (row :
   pub content_is : content ≡ row.content
 
 pub of_row : (k : PrefixKind) (prefix : Prefix) (content : Content) (row : Row) → FitsAs k content → row_with k prefix (Some content) ≡ Some row → IsOfRow k prefix content row
-of_row kind.Absent prefix content row fits is = absurd (none-some row is)
-of_row kind.File prefix content row fits is =
-    subst (IsOfRow kind.File prefix content) (same_Some (record { owner = prefix.owner; group = prefix.group; acl = prefix.acl; votes = prefix.votes; content = content }) row is)
-    (record { kind_is = sym (ap prefix_kind fits); owner = refl; group = refl; acl = refl; votes = refl; content_is = refl })
-of_row kind.Folder prefix content row fits is =
-    subst (IsOfRow kind.Folder prefix content) (same_Some (record { owner = prefix.owner; group = prefix.group; acl = prefix.acl; votes = prefix.votes; content = content }) row is)
-    (record { kind_is = sym (ap prefix_kind fits); owner = refl; group = refl; acl = refl; votes = refl; content_is = refl })
+of_row k prefix content row h4 h5 = search arith
 
 pub has_head : (prefix : Prefix) (content : Content) (row : Row) (other : Prefix) → IsOfRow prefix.kind prefix content row → other ≡ prefix → HasHead row other
-has_head prefix content row other of is = record {
-  kind = ap (λ (prefix : Prefix). prefix.kind) is ∙ of.kind_is;
-  owner = ap (λ (prefix : Prefix). prefix.owner) is ∙ of.owner;
-  group = ap (λ (prefix : Prefix). prefix.group) is ∙ of.group;
-  acl = ap (λ (prefix : Prefix). prefix.acl) is ∙ of.acl;
-  votes = ap (λ (prefix : Prefix). prefix.votes) is ∙ of.votes;
-}
+has_head prefix content row other of is = search arith
 
 -- ---- the machine of a suite, after a run
 

@@ -1,9 +1,9 @@
 -- Each prefix and each content that a register had is the register's own after some beginning of the run.
-use Rattle.law_one_table.proofs.Vocabulary.{nat_tests, Content, Opening, Prefix, Replica, fixed_of, Decided, decided, Beginning, IsBeginning, Known, Entry, Wrote, IsNext, IsPlain, changed, row, prefix_at, content_at, World, Event}
-use Rattle.law_one_table.proofs.Vocabulary.{DecideRead, DecideRefused, DecideWrite, happens, beginning, machine_of, register, AllKeepSides}
-use Rattle.std.proofs.Common.{◌≡◌, inl, inr, ℕ, ◌<◌, ◌≤◌, true, false, List, [], ◌∷◌, ◌++◌, append_assoc, Option, Some, None, refl, sym, ap, subst, ◌∙◌, arith, ◌==◌}
+use Rattle.law_one_table.proofs.Vocabulary.{Content, Opening, Prefix, Replica, fixed_of, Decided, decided, Beginning, IsBeginning, Known, Entry, Wrote, IsNext, IsPlain, changed, row, prefix_at, content_at, World, Event, DecideRead, DecideRefused}
+use Rattle.law_one_table.proofs.Vocabulary.{DecideWrite, happens, beginning, machine_of, register, AllKeepSides}
+use Rattle.std.proofs.Common.{◌≡◌, inl, inr, ℕ, ◌<◌, ◌≤◌, List, [], ◌∷◌, ◌++◌, append_assoc, Option, Some, None, sym, ap, subst, ◌∙◌, arith}
 use Rattle.law_runs.proofs.Table.{one_more}
-use Rattle.law_suite_machine.proofs.Places.{at1, one_is}
+use Rattle.law_suite_machine.proofs.Places.{at1}
 use Rattle.run_core.specs.declared.event.Event as happening
 use Rattle.run_core.specs.Runs as runs
 use Rattle.law_one_table.proofs.Logs.{LogIs, decision_at, event_log}
@@ -24,11 +24,7 @@ pub record Had (given : Opening) (z : ℕ) (events : List happening.Event) (log 
 
 -- less, or the same
 pub strict : (a b : ℕ) → a ≤ b → (a ≡ b → ⊥) → a < b
-strict a b most other =
-    elim (a == b) as (λ c. (a == b) ≡ c → a < b) [
-      | true ↦ λ e. absurd (other (one_is b a e))
-      | false ↦ λ e. grind (arith, nat_tests)
-    ] refl
+strict a b most other = search arith
 
 -- ---- one event more
 
@@ -37,18 +33,10 @@ module _ (given : Opening) (z : ℕ) where
   start = beginning z given
 
   found_on : (events later : List happening.Event) (P : Replica → Type 0) → Found given z events P → Found given z (events ++ later) P
-  found_on events later P found = record {
-    before = found.before;
-    later = found.later ++ later;
-    parts = ap (λ all. all ++ later) found.parts ∙ append_assoc found.before found.later later;
-    is = found.is;
-  }
+  found_on events later h2 found = search (append_assoc, arith)
 
   had_on : (events later : List happening.Event) (log : List Entry) → Had given z events log → Had given z (events ++ later) log
-  had_on events later log had = record {
-    prefix = λ p some most. found_on events later (λ held. (held.prefix.pver ≡ p) × (held.prefix ≡ prefix_at start log p)) (had.prefix p some most);
-    content = λ d some most. found_on events later (λ held. (held.dver ≡ d) × (held.content ≡ content_at start log d)) (had.content d some most);
-  }
+  had_on events later log had = grind (found_on, arith)
 
   -- the register as it is after all of them
   found_now : (events : List happening.Event) (P : Replica → Type 0) → P (register given z events) → Found given z events P
@@ -80,22 +68,7 @@ module _ (given : Opening) (z : ℕ) where
   HadAll events = Had given z events (machine_of given z events).log
 
   had_first : IsBeginning start → HadAll []
-  had_first begins = record {
-    prefix = λ p some most.
-        at1 (λ (value : Prefix). Found given z [] (λ held. (held.prefix.pver ≡ p) × (held.prefix ≡ value))) (λ _. start.never.prefix) start.row.prefix.pver start.row.prefix p
-        (λ here. found_now [] (λ held. (held.prefix.pver ≡ p) × (held.prefix ≡ start.row.prefix)) (sym here, refl))
-        (λ other. absurd (elim (begins.first) [
-          | inl same ↦ let e = ap (λ (held : Replica). held.prefix.pver) same in let zero = begins.no_prefix in omega arith
-          | inr one ↦ let e = one.0 in other (omega arith)
-        ]));
-    content = λ d some most.
-        at1 (λ (value : Content). Found given z [] (λ held. (held.dver ≡ d) × (held.content ≡ value))) (λ _. start.never.content) start.row.dver start.row.content d
-        (λ here. found_now [] (λ held. (held.dver ≡ d) × (held.content ≡ start.row.content)) (sym here, refl))
-        (λ other. absurd (elim (begins.first) [
-          | inl same ↦ let e = ap (λ (held : Replica). held.dver) same in let zero = begins.no_content in omega arith
-          | inr one ↦ let e = one.1 in other (omega arith)
-        ]));
-  }
+  had_first begins = search arith
 
   module _ (events : List happening.Event) (event : happening.Event) (kept : AllKeepSides given (events ++ event ∷ [])) (had : HadAll events) where
     abbrev w : World

@@ -1,12 +1,9 @@
 -- Each row of the table of a run is what the register of its suite holds, event by event.
-use Rattle.law_one_table.proofs.Vocabulary.{nat_cmp, is_eq, nat_tests, absent_copy, root_copy, Opening, Answer, Refusal, PlainTable, row_of, Ended, AgreesWith, on_table, ReadPoint, GatheredSuite, suite_of, known_of, TransactionRun, Doing}
-use Rattle.law_one_table.proofs.Vocabulary.{Running, fixed_of, Step, actor_at, opening, step, Decided, decided, decisions, decisions_from, Came, Keeps, answers_follow_knowledge, always_knows, Knows, IsPlain, IsKnown, row, World, begun}
-use Rattle.law_one_table.proofs.Vocabulary.{happens, one_register, beginning, known_by, to_write, decision_in, decision_by, decision_with, moved, machine_from, machine_of, history_of, machines_follow, register, AllKeepSides}
-use Rattle.law_one_table.proofs.Vocabulary.{RowsAreTheRegisters, AgentsKnowTheTable, AnswersAreOneTables, AuditIsOneTables, OwedIsEnough}
-use Rattle.std.proofs.Common.{◌≡◌, ℕ, zero, suc, false, cond, Less, Equal, Greater, List, [], ◌∷◌, ◌++◌, Option, Some, None, refl, sym, ap, subst, ◌∙◌, arith, ◌==◌, option_to_list, Result, Ok, Err}
+use Rattle.law_one_table.proofs.Vocabulary.{Opening, Answer, Refusal, PlainTable, row_of, Ended, AgreesWith, on_table, ReadPoint, GatheredSuite, suite_of, known_of, TransactionRun, Doing, Running, fixed_of, Step, actor_at, opening, step, Decided}
+use Rattle.law_one_table.proofs.Vocabulary.{decided, decisions, decisions_from, Came, Keeps, answers_follow_knowledge, always_knows, Knows, IsPlain, IsKnown, row, World, begun, happens, one_register, beginning, known_by, decision_with, moved}
+use Rattle.law_one_table.proofs.Vocabulary.{machine_from, machine_of, history_of, machines_follow, register, AllKeepSides, RowsAreTheRegisters, AgentsKnowTheTable, AnswersAreOneTables, AuditIsOneTables, OwedIsEnough}
+use Rattle.std.proofs.Common.{◌≡◌, ℕ, List, [], ◌∷◌, ◌++◌, Option, Some, None, refl, sym, ap, subst, ◌∙◌, arith, option_to_list, Result}
 use Rattle.std.specs.List.{cons_option}
-use Rattle.std.specs.declared.cmp.Ordering.{Ordering}
-use Rattle.std.proofs.lemmas.Map.Lookups.{exact_unsigned}
 use Rattle.file_ops.specs.Transactions.{transaction, replies, table_after}
 use Rattle.file_exec.proofs.More.{done_is_the_tables}
 use Rattle.run_core.specs.TableOfRun.{played_on, table_after_all, table_of, AnswersAreTheTables}
@@ -19,7 +16,7 @@ use Rattle.file_ops.specs.Rows as rows
 use Rattle.run_core.specs.declared.event.Event as happening
 use Rattle.run_core.specs.Worlds as worlds
 use Rattle.run_core.specs.Runs as runs
-use Rattle.law_one_table.proofs.Logs.{LogIs, decision_of_actor, decision_at, event_log}
+use Rattle.law_one_table.proofs.Logs.{LogIs, decision_at, event_log}
 use Rattle.law_one_table.proofs.Shown.{IsShown}
 use Rattle.law_one_table.proofs.Knowing.{known_by_plain, decision_is, agrees}
 use Rattle.law_one_table.proofs.Writing.{rows_after, decision_leads}
@@ -39,22 +36,8 @@ machine_one given z events event = machine_more given z (begun (beginning z give
 abbrev AllShown : Opening → List happening.Event → Type 0
 AllShown given events = (z : ℕ) → IsShown (register given z events) (row_of (table_of given events).rows z)
 
-not_zero : (z : ℕ) → (suc z == 0) ≡ false
-not_zero z = grind (arith, nat_tests)
-
-not_root : (z : ℕ) → is_eq (nat_cmp (suc z) 0) ≡ false
-not_root z = of (nat_cmp (suc z) 0) refl
-  where
-    of : (o : Ordering) → nat_cmp (suc z) 0 ≡ o → is_eq o ≡ false
-    of Less is = refl
-    of Greater is = refl
-    of Equal is = let none : suc z ≡ 0 = exact_unsigned (suc z) 0 is in absurd (omega (arith, none))
-
 opens_shown : (given : Opening) → AllShown given []
-opens_shown given zero = record { shows = refl; fits = refl; never = tt }
-opens_shown given (suc z) =
-    subst (λ b. IsShown (cond b (root_copy given) (absent_copy given.c0)) (row_of (table_of given []).rows (suc z))) (sym (not_zero z))
-    (subst (λ b. IsShown (absent_copy given.c0) (cond b (Some (rows.root_row given)) None)) (sym (not_root z)) (record { shows = refl; fits = tt; never = (refl, refl) }))
+opens_shown given h1 = search arith
 
 -- ---- what a step decides
 
@@ -91,11 +74,7 @@ module _ (given : Opening) (events : List happening.Event) (event : happening.Ev
 
   module _ (one : Decided) (is : decided (fixed_of given) world event ≡ Some one) (so : IsAnsweredAsKnown given world event one) where
     decides_so : (z : ℕ) → decision_at z (machine z) world event ≡ decision_with z (machine z) so.txn_run.task so.txn_run.suites so.outcome
-    decides_so z =
-        ap (decision_at z (machine z) world) so.step
-        ∙ ap (decision_of_actor z (machine z)) so.there
-        ∙ ap (decision_by z (machine z)) so.running
-        ∙ ap (decision_in z (machine z) so.txn_run.task so.txn_run.suites) so.deciding
+    decides_so z = search arith
 
     came : Came (fixed_of given) so.txn_run.task so.txn_run.suites so.outcome
     came = subst (Keeps (fixed_of given) so.txn_run.task so.txn_run.suites) so.deciding (subst (Knows (fixed_of given)) so.running (always_knows given events so.number so.actor.agent (ap agent_of so.there)))
@@ -104,19 +83,14 @@ module _ (given : Opening) (events : List happening.Event) (event : happening.Ev
     log_with z = log_decided z one is ∙ ap (λ decision. (happens (beginning z given) (machine z) decision).log) (decides_so z)
 
     knows : (z : ℕ) (suite : GatheredSuite) (first : ReadPoint) → suite_of so.txn_run.suites z ≡ Some suite → suite.first ≡ Some first → IsKnown (register given z events) (known_by first suite)
-    knows z suite first there was =
-        known_by_plain (beginning z given) (machine z) so.txn_run.task.t (known_by first suite) so.outcome (to_write z so.txn_run.suites so.outcome)
-        (subst (λ log. IsPlain (beginning z given) log)
-        (log_with z ∙ ap (λ decision. (happens (beginning z given) (machine z) decision).log) (decision_is z (machine z) so.txn_run.task so.txn_run.suites so.outcome suite first there was))
-        (plain_after z))
+    knows z suite first there was = search (log_with z, plain_after z, known_by_plain, decision_is, arith)
 
     agrees_so : AgreesWith (known_of so.txn_run.suites) (row_of (table_of given events).rows)
     agrees_so = agrees so.txn_run.suites (table_of given events).rows (λ z. register given z events) came.fit.ordered shown knows
 
     -- the table after it
     rows_of : (outcome : Result (Ended (List Answer)) Refusal) → (table_after (table_of given events) one.t one.caller (on_table (table_of given events).rows outcome)).rows ≡ rows_after (table_of given events).rows outcome
-    rows_of (Ok ended) = refl
-    rows_of (Err refusal) = refl
+    rows_of outcome = search arith
 
     plays : played_on (table_of given events) one ≡ on_table (table_of given events).rows came.result
     plays =
@@ -127,10 +101,7 @@ module _ (given : Opening) (events : List happening.Event) (event : happening.Ev
         ∙ done_is_the_tables (fixed_of given).service (known_of so.txn_run.suites) (table_of given events).rows so.txn_run.task.t so.txn_run.task.caller so.txn_run.task.ops came.result agrees_so came.is
 
     table_so : (table_of given (events ++ event ∷ [])).rows ≡ rows_after (table_of given events).rows came.result
-    table_so =
-        ap (λ (table : PlainTable). table.rows) (table_one given events event ∙ ap (λ one. table_after_all (table_of given events) (option_to_list one)) is)
-        ∙ ap (λ outcome. (table_after (table_of given events) one.t one.caller outcome).rows) plays
-        ∙ rows_of came.result
+    table_so = search (table_one, option_to_list, plays, rows_of, arith)
 
     shown_so : AllShown given (events ++ event ∷ [])
     shown_so z =

@@ -1,6 +1,6 @@
 -- The versions of the table's rows are those of the registers: what follows of copies in effect and of caches.
-use Rattle.law_one_table.proofs.Vocabulary.{Configuration, Content, empty_content, Opening, absent_prefix, Prefix, PrefixKind, Replica, Row, head, row_with, Actor, actor_at, Beginning, row, prefix_at, content_at, WasPrefix, WasContent}
-use Rattle.law_one_table.proofs.Vocabulary.{GoesWith, WasCopy, World, IsQuorum, effect, beginning, machine_of, register, AllKeepSides, copy_at, HasOne, HasHead}
+use Rattle.law_one_table.proofs.Vocabulary.{Configuration, Content, Opening, absent_prefix, Prefix, PrefixKind, Replica, Row, head, row_with, Actor, actor_at, Beginning, row, prefix_at, content_at, WasPrefix, WasContent, GoesWith, WasCopy, World}
+use Rattle.law_one_table.proofs.Vocabulary.{IsQuorum, effect, beginning, machine_of, register, AllKeepSides, copy_at, HasOne, HasHead}
 use Rattle.std.proofs.Common.{◌≡◌, inl, inr, ℕ, ◌<◌, ◌≤◌, Bool, List, ◌++◌, Some, None, refl, sym, ap, subst, ◌∙◌, arith, Contains}
 use Rattle.law_suite_machine.proofs.Rows.{Logged, none_or_some}
 use Rattle.law_run_knowledge.proofs.Events.{knowledge_was}
@@ -20,31 +20,26 @@ use Rattle.law_one_table.proofs.Had.{Found, strict, had_all}
 
 -- all of a row but the content is a prefix's
 head_of : (k : PrefixKind) (prefix : Prefix) (content : Content) → FitsAs k content → head (row_with k prefix (Some content)) ≡ row_with k prefix None
-head_of kind.Absent prefix content fits = refl
-head_of _ prefix content fits = ap (λ k. Some (record { owner = prefix.owner; group = prefix.group; acl = prefix.acl; votes = prefix.votes; content = empty_content k })) fits
+head_of k prefix content h3 = search arith
 
 -- a row that is there has its content
 content_is : (k : PrefixKind) (prefix : Prefix) (content : Content) → (k ≡ kind.Absent → ⊥) → content_of (row_with k prefix (Some content)) ≡ Some content
-content_is kind.Absent prefix content there = absurd (there refl)
-content_is _ prefix content there = refl
+content_is k prefix content h3 = search arith
 
 is_there : (k : PrefixKind) (prefix : Prefix) (content : Content) → (k ≡ kind.Absent → ⊥) → (row : Row) × (row_with k prefix (Some content) ≡ Some row)
 is_there kind.Absent prefix content there = absurd (there refl)
 is_there _ prefix content there = (record { owner = prefix.owner; group = prefix.group; acl = prefix.acl; votes = prefix.votes; content = content }, refl)
 
 no_row : (k : PrefixKind) (prefix : Prefix) (content : Content) (pver dver : ℕ) → NeverAs k pver dver → row_with k prefix (Some content) ≡ None → (pver ≡ 0) × (dver ≡ 0)
-no_row kind.Absent prefix content pver dver never is = never
-no_row _ prefix content pver dver never is = absurd cc
+no_row k prefix content pver dver h5 h6 = search arith
 
 -- what is at a version above 0 was made
 made_at : (k : PrefixKind) (pver dver : ℕ) → NeverAs k pver dver → k ≡ kind.Absent → (pver ≡ 0) × (dver ≡ 0)
-made_at kind.Absent pver dver never is = never
-made_at _ pver dver never is = absurd cc
+made_at k pver dver h3 h4 = search arith
 
 -- what is at content version 0 was not
 never_made : (k : PrefixKind) (prefix : Prefix) (content : Content) → k ≡ kind.Absent → content_of (row_with k prefix (Some content)) ≡ None
-never_made kind.Absent prefix content is = refl
-never_made _ prefix content is = absurd cc
+never_made k prefix content h3 = search arith
 
 -- ---- the versions
 
@@ -205,19 +200,13 @@ module _ (given : Opening) (events : List Event) (kept : AllKeepSides given even
   content_was d content was = λ some. had_content d content (was some) ((had_all given z events kept).content d some (was some).1)
 
   goes : (prefix : Prefix) (d : ℕ) (content : Content) → GoesWith (beginning z given) log prefix d content → 0 < d → WasContent (beginning z given) log d content
-  goes prefix d content (inl was) some = was
-  goes prefix d content (inr zero) some = let e = zero.0 in absurd (omega arith)
+  goes prefix d content h3 h4 = search arith
 
   empty : (prefix : Prefix) (d : ℕ) (content : Content) → GoesWith (beginning z given) log prefix d content → d ≡ 0 → content ≡ registers.empty_of prefix
-  empty prefix d content (inl was) zero = let some = was.0 in absurd (omega arith)
-  empty prefix d content (inr none) zero = none.1
+  empty prefix d content h3 h4 = search arith
 
   copy_was : (copy : Replica) → WasCopy (beginning z given) log copy → CopyWas given (versions_of given) events z copy
-  copy_was copy was = record {
-    prefix = prefix_was copy.prefix was.0;
-    content = content_was copy.dver copy.content (goes copy.prefix copy.dver copy.content was.1);
-    empty = empty copy.prefix copy.dver copy.content was.1;
-  }
+  copy_was copy was = search (prefix_was, content_was, goes, empty, arith)
 
   pub copies_were : (server : ℕ) → CopyWas given (versions_of given) events z (copy_at given events z server)
   copies_were server = subst (CopyWas given (versions_of given) events z) (effect_at given events kept z server) (copy_was (effect (machine_of given z events) server) ((inv given events kept z).current.were server))

@@ -1,7 +1,7 @@
 -- A decision leads the table and the registers on to the same rows.
-use Rattle.law_one_table.proofs.Vocabulary.{nat_cmp, false≢true, get, IsOrdered, Answer, Refusal, Row, Rows, row_of, KnownSuite, Ended, with_edits, AgreesWith, is_held, Done, exec_of, TellsAt, ReadPoint, GatheredSuite, Suites, suite_of}
-use Rattle.law_one_table.proofs.Vocabulary.{known_of, change_of, Granted, Fixed, Task, Proposal, known_from, IsOfSuite, given_by, set_by, answer_as, Came, Beginning, Change, changed, row, World, happens, change_to, written_from, first_of}
-use Rattle.law_one_table.proofs.Vocabulary.{to_write, known_by, decides_with, decides_first, decides_on, decision_with, changes_lead_on}
+use Rattle.law_one_table.proofs.Vocabulary.{nat_cmp, false≢true, get, IsOrdered, Answer, Refusal, Row, Rows, row_of, KnownSuite, Ended, with_edits, AgreesWith, is_held, Done, exec_of, TellsAt, ReadPoint, GatheredSuite, Suites, suite_of, arith}
+use Rattle.law_one_table.proofs.Vocabulary.{known_of, change_of, Granted, Fixed, Task, Proposal, known_from, IsOfSuite, given_by, set_by, answer_as, Came, Beginning, Change, changed, row, World, happens, change_to, written_from, first_of, to_write}
+use Rattle.law_one_table.proofs.Vocabulary.{known_by, decides_with, decides_on, decision_with, changes_lead_on}
 use Rattle.std.proofs.Common.{◌≡◌, ℕ, true, List, Option, Some, None, refl, sym, ap, subst, ◌∙◌, is_some, Result, Ok, Err}
 use Rattle.suite_prefix.specs.declared.lock_mode.LockMode.TheVariants.{Exclusive}
 use Rattle.file_exec.proofs.Unset.{changes_are_held}
@@ -19,25 +19,14 @@ rows_after rows (Err refusal) = rows
 -- ---- decisions that write nothing
 
 module _ (start : Beginning) (w : World) (t : ℕ) where
-  refused_first : (refusal : Refusal) (new : Option Change) (suite : GatheredSuite) (first : Option ReadPoint) → row start (happens start w (decides_first w t (Err refusal) new suite first)).log ≡ row start w.log
-  refused_first refusal new suite (Some first) = refl
-  refused_first refusal new suite None = refl
-
   pub refused_keeps : (refusal : Refusal) (new : Option Change) (found : Option GatheredSuite) → row start (happens start w (decides_on w t (Err refusal) new found)).log ≡ row start w.log
-  refused_keeps refusal new (Some suite) = refused_first refusal new suite suite.first
-  refused_keeps refusal new None = refl
-
-  read_first : (granted : Granted) (suite : GatheredSuite) (first : Option ReadPoint) → row start (happens start w (decides_first w t (Ok granted) None suite first)).log ≡ row start w.log
-  read_first granted suite (Some first) = refl
-  read_first granted suite None = refl
+  refused_keeps refusal new found = search arith
 
   pub read_keeps : (granted : Granted) (found : Option GatheredSuite) → row start (happens start w (decides_on w t (Ok granted) None found)).log ≡ row start w.log
-  read_keeps granted (Some suite) = read_first granted suite suite.first
-  read_keeps granted None = refl
+  read_keeps granted found = search arith
 
 nothing_written : (first : Option ReadPoint) → written_from first None ≡ None
-nothing_written None = refl
-nothing_written (Some first) = refl
+nothing_written first = search arith
 
 -- ---- any decision
 
@@ -63,18 +52,11 @@ module _ (start : Beginning) (z : ℕ) (w : World) (fixed : Fixed) (task : Task)
       (leads found.first)
 
   held_is_some : (it : Option KnownSuite) → is_held Exclusive it ≡ true → is_some it ≡ true
-  held_is_some None is = absurd (false≢true is)
-  held_is_some (Some it) is = refl
+  held_is_some it h1 = search arith
 
   by_change : (granted : Granted) (came : Came fixed task suites (Ok granted)) (ended : Ended (List Answer)) → came.result ≡ Ok ended → (o : Option executor.Change) → get nat_cmp (changes.changes_of came.before ended.edits) z ≡ o
       → TellsAt o (row_of rows z) (row_of (with_edits rows ended.edits) z) → IsShown (row start (happens start w (decision_with z w task suites (Ok granted))).log) (row_of (with_edits rows ended.edits) z)
-  by_change granted came ended result None is tells =
-      let set : change_of granted.changes z ≡ None = ap (λ all. change_of all z) (came.set ∙ ap (set_by came.before) result) ∙ is in
-      subst (IsShown (row start (happens start w (decision_with z w task suites (Ok granted))).log)) (sym tells)
-      (subst (λ held. IsShown held (row_of rows z))
-      (sym (ap (λ new. row start (happens start w (decides_on w task.t (Ok granted) new (suite_of suites z))).log)
-      (ap (written_from (first_of (suite_of suites z))) set ∙ nothing_written (first_of (suite_of suites z))) ∙ read_keeps start w task.t granted (suite_of suites z)))
-      shown)
+  by_change granted came ended result None is tells = search (set_by, nothing_written, read_keeps, arith)
   by_change granted came ended result (Some change) is tells =
       let set : change_of granted.changes z ≡ Some change = ap (λ all. change_of all z) (came.set ∙ ap (set_by came.before) result) ∙ is in
       let was : exec_of fixed.service came.before task.t task.caller task.ops ≡ Done (Ok ended) = came.was ∙ ap Done result in
