@@ -28,7 +28,7 @@ import played
 from common import built, forms
 from compare import scenario
 from explain import explain
-from explain.faults import WORD
+from explain.misfits import WORD
 
 FIRSTS = {command: list(forms.lines_of(command, "own")) for command in forms.COMMANDS}
 VERBS = list(forms.OPERATIONS)

@@ -24,9 +24,10 @@ from played import Tally
 
 from common import built, forms, text_of
 from compare import scenario
-from explain import explain, play_lines, reasons
+from explain import explain, play_lines, reasons, whys
 from explore import queries
 from front import remarks
+from votes import reading
 
 TOP = played.TOP
 source = functools.partial(text_of, "crates")
@@ -49,10 +50,10 @@ PUT = {
     "--servers N": "1,1,1/2/2 --servers 3",
 }
 # A constant of the sources, and where it is named: parts of the page with the words around it, and a place of the table
-# of forms or a constant of the command `forms`, whose crate cannot name that of another one.
-LIMITS: tuple[tuple[str, str, list[tuple[str, str]], str | None], ...] = (
-    ("acl_core/src/acl.rt", "MAX_ENTRIES", [("A8", "more than {} entries")], None),
-    ("acl_text/src/names.rt", "MAX_NAME", [("N1", "1 to {} bytes")], None),
+# of forms or what the tools have.
+LIMITS: tuple[tuple[str, str, list[tuple[str, str]], str | int | None], ...] = (
+    ("acl_core/src/acl.rt", "MAX_ENTRIES", [("A8", "more than {} entries")], whys.MAX_ENTRIES),
+    ("acl_text/src/names.rt", "MAX_NAME", [("N1", "1 to {} bytes")], whys.MAX_NAME),
     ("suite_content/src/name.rt", "MAX_NAME", [("F1", "of 1 to {} bytes")], None),
     ("suite_content/src/folder_names.rt", "MAX_NAMES", [("F9", "{} names")], None),
     ("suite_content/src/file_bytes.rt", "MAX_CONTENT", [("F8", "More than {} bytes")], None),
@@ -63,14 +64,14 @@ LIMITS: tuple[tuple[str, str, list[tuple[str, str]], str | None], ...] = (
     ("suite_prefix/src/settings.rt", "MAX_AGENTS", [("G1", "1 to {} agents")], "AGENTS"),
     ("suite_prefix/src/settings.rt", "MAX_CACHE", [("G3", "at most {} bytes")], "BUDGET"),
     ("suite_prefix/src/settings.rt", "MAX_SLOTS", [("G3", "{} entries")], "SLOTS"),
-    ("suite_prefix/src/forms.rt", "OLD_ENTRIES", [("G4", "no more than {} entries")], "old.rt OLD_ENTRIES"),
-    ("suite_prefix/src/forms.rt", "OLD_SERVERS", [], "old.rt OLD_SERVERS"),
+    ("suite_prefix/src/forms.rt", "OLD_ENTRIES", [("G4", "no more than {} entries")], whys.OLD_ENTRIES),
+    ("suite_prefix/src/forms.rt", "OLD_SERVERS", [], whys.OLD_SERVERS),
     ("vote_core/src/lib.rt", "MAX_SERVERS", [("G1", "1 to {} servers"), ("V2", "there are {} servers")], "SERVERS"),
     ("suite_script/src/scope.rt", "MAX_STEPS", [], "N"),
     ("suite_script/src/scope.rt", "LAST_SITE", [], "SITE"),
-    ("suite_script/src/votes.rt", "MAX_COLLECTED", [], "votes.rt MAX_COLLECTED"),
-    ("suite_script/src/votes.rt", "MAX_VOTES", [], "votes.rt MAX_VOTES"),
-    ("acl_text/src/caller.rt", "MAX_NUMBERS", [], "number.rt MAX_NUMBERS"),
+    ("suite_script/src/votes.rt", "MAX_COLLECTED", [], reading.MOST_COLLECTED),
+    ("suite_script/src/votes.rt", "MAX_VOTES", [], reading.MOST_VOTES),
+    ("acl_text/src/caller.rt", "MAX_NUMBERS", [], whys.MAX_NUMBERS),
 )
 # A file, the command that reads it, its text, and what is to be told of its fault.
 ON_TERMINAL = (
@@ -300,12 +301,13 @@ def unexplained() -> typing.Iterator[str]:
 
 
 def untold_reasons() -> typing.Iterator[str]:
-    """The reasons that the command `forms` prints and for which the tools have no sentence."""
-    variants = re.search(r"enum Reason \{(.*?)\}", source("forms", "src", "reason.rt"), re.DOTALL)[1]
-    printed = {re.sub(r"(?<!^)(?=[A-Z])", "-", name).lower() for name in re.findall(r"\w+", variants)}
+    """The reasons that the command `forms` prints, or the tools find, and for which they have no sentence."""
+    tools = text_of("tools", "explain", "whys.py") + text_of("tools", "votes", "reading.py")
+    printed = set(re.findall('Reason::.* => b"(.*)"', source("forms", "src", "reason.rt")))
     known = {*reasons.SENTENCES, *reasons.LAID_OUT}
-    yield from (f"no sentence has the reason {name}" for name in printed - known)
-    yield from (f"nobody tells the reason {name}" for name in known - printed)
+    found = printed | set(re.findall(r'Why\("([a-z-]+)"', tools))
+    yield from (f"no sentence has the reason {name}" for name in found - known)
+    yield from (f"nobody tells the reason {name}" for name in known - printed - set(re.findall('"([a-z-]+)"', tools)))
 
 
 def constant(path: str, name: str) -> int:
@@ -322,12 +324,9 @@ def false_limits() -> typing.Iterator[str]:
         for code, words in told:
             if not any(re.search(rf"(?<![\d,]){re.escape(words.format(way))}", parts[code]) for way in ways):
                 yield f"{code} does not say \"{words.format(number)}\", the {name} of {path}"
-        if own in forms.PLACES:
-            known = int(forms.PLACES[own].most)
-        else:
-            known = constant(*f"forms/src/{own}".split()) if own else number
+        known = int(forms.PLACES[own].most) if isinstance(own, str) else number if own is None else own
         if known != number:
-            yield f"{own} of crates/forms is not {number}, the {name} of {path}"
+            yield f"{known} stands for {number}, the {name} of {path}"
 
 
 def main() -> int:

@@ -1,19 +1,18 @@
 """How an answer about a faulty line of a script is laid out, or about a faulty item of a list.
 
 The program's line and code are given. What does not fit, why, and what would mend it is told by the command `forms`
-(misfits.py), and said with the sentences of reasons.py. Where its code is not the one that was given,
+(misfits.py, whys.py), and said with the sentences of reasons.py. Where its code is not the one that was given,
 nothing is told.
 """
 import re
 
 from common import forms
-from explain import misfits
-from explain.misfits import Found, Misfit
+from explain import misfits, whys
+from explain.misfits import WORD, Found, Misfit
 from common.forms import OPERATIONS
 from common.quoted import either, nearest, plain, quoted, sentence
 from explain.reasons import Of, of_item
 
-WORD = re.compile(r"[^ \t]+")
 OWN = {"play": "event", "serve": "job", "table": "transaction"}
 # What is told of a word or a line of which something is not seen.
 HIDDEN = {
@@ -47,7 +46,7 @@ def command_of(script: str) -> str:
         may_be = [command for command in forms.COMMANDS if words <= forms.lines_of(command).keys()]
         if len(may_be) == 1:
             return may_be[0]
-    return misfits.in_script(script, 1)[0].command
+    return max(forms.COMMANDS, key=lambda command: misfits.likeness(command, lines_of(script)))
 
 
 def told_of(command: str, line: str, misfit: Misfit) -> str:
@@ -169,7 +168,8 @@ def of_script(name: str, text: str, number: int, code: str, command: str | None 
     """What is to be shown of a line of a script, and whether its fault was found. A fault of another command than the
     likest one is the one sought only where no line above has a fault of that command.
     """
-    lines, found = lines_of(text), misfits.in_script(text, number, command)
+    lines = lines_of(text)
+    found = whys.in_script(text, lines, number, command)
     first = found[0]
     may_be = [one for one in found if one is first or not one.above]
     of = next((one for one in may_be if one.misfit and one.misfit.code == code), first)
@@ -193,7 +193,7 @@ def of_script(name: str, text: str, number: int, code: str, command: str | None 
 def of_list(name: str, text: str, code: str) -> tuple[list[str], bool]:
     """What is to be shown of a list, and whether its fault was found. Which names have a number is not known."""
     place = re.search(r"(.*) item (\d+)$", code)
-    now = misfits.in_list(text, int(place[2]) if place else 0, code.split()[0] != "A10")
+    now = whys.in_list(text, int(place[2]) if place else 0, code.split()[0] != "A10")
     if not place:
         return ([sentence(told_now(text, now))] if now.code == code else mended(name, code, text)), now.code == code
     if not now.ends:
@@ -212,7 +212,7 @@ def told_now(text: str, now: misfits.Item) -> str:
 
 def mended(name: str, code: str, text: str) -> list[str]:
     """What is told of a list that has no such fault."""
-    now = misfits.in_list(text, 0, True)
+    now = whys.in_list(text, 0, True)
     is_right = "The list is right as it is now."
     is_now = f"What is wrong with it now is {now.code}: {told_now(text, now)}." if now.code else is_right
     return [f"{name} has no fault {code}. {is_now} Was it changed since?"]

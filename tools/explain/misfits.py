@@ -1,10 +1,17 @@
 """What keeps a line of a script from its form, and a text from being a list, as the command `forms` tells it. No tool
-reads a line or a list by its form itself.
+finds a fault itself; whys.py tells of one that was found what the words show.
 """
 import functools
+import re
 import typing
 
 from common import built, console, forms
+
+WORD = re.compile(r"[^ \t]+")
+# White space of lists.
+WHITE = " \t\r"
+# So many lines show of which command a script is.
+MANY = 1000
 
 
 class Why(typing.NamedTuple):
@@ -18,8 +25,8 @@ class Why(typing.NamedTuple):
 class Misfit(typing.NamedTuple):
     """The place of the word, counted from 0, the code of its fault, the place of the form in which it stands (or END,
     OPERATION, LINE), the form that has this place or is due, the ends of a list's faulty item in the word, what would
-    mend the line: words instead of it and before it, and one too many or too few; what of it is not seen, and why it
-    does not fit.
+    mend the line: words instead of it and before it, and one too many or too few; why it does not fit, and what of it
+    is not seen.
     """
 
     at: int
@@ -30,8 +37,8 @@ class Misfit(typing.NamedTuple):
     instead: list[str]
     before: list[str]
     shift: list[str]
-    hidden: str
     why: Why
+    hidden: str = "-"
 
     def due(self) -> str:
         """The first word of the line that is due in the place of one that may not stand there; nothing, if none is."""
@@ -72,38 +79,60 @@ def words_of(field: str) -> list[str]:
     return [] if field == "-" else field.split()
 
 
-def ends_of(field: str) -> tuple[int, int] | None:
-    ends = words_of(field)
-    return (int(ends[0]), int(ends[1])) if ends else None
+def ends_of(text: str, place: str) -> tuple[int, int] | None:
+    """Where the item at a place of a list begins and ends, without white space at its ends."""
+    if place == "-":
+        return None
+    front, item = text[: int(place)], re.split("[,#\n]", text[int(place) :], 1)[0]
+    begin = len(front + item) - len(item.lstrip(WHITE))
+    return begin, begin + len(item.strip(WHITE))
 
 
-def misfit_of(fields: list[str]) -> Misfit | None:
+def misfit_of(line: str, fields: list[str]) -> Misfit | None:
     """What does not fit, of the fields that the program prints of a line."""
-    word, code, expected, form, _, ends, instead, before, shift, hidden, *why = fields
-    if word == "-":
+    at, code, expected, form, item, instead, before, shift, _, *why = fields
+    if at == "-":
         return None
     mends = words_of(instead), words_of(before), words_of(shift)
-    return Misfit(int(word) - 1, code, expected, form, ends_of(ends), *mends, hidden, why_of(*why))
+    word = [*WORD.findall(line), ""][int(at) - 1]
+    return Misfit(int(at) - 1, code, expected, form, ends_of(word, item), *mends, why_of(*why))
 
 
 def in_list(text: str, number: int, are_named: bool) -> Item:
     """What the program tells of an item of a list, or for 0 of the whole, where each name has a number or none has."""
     told = asked("list" if are_named else "unnamed", number, text.encode("latin1"))
     # the last field may be any bytes
-    _, ends, code, *why = told.split("\t", 5)
-    return Item(ends_of(ends), code.strip("-"), why_of(*why))
+    place, code, *why = told.split("\t", 4)
+    # an item is read as a list of its own
+    code = re.sub("item 1$", f"item {number}", code if " item " in code else "") if number else code.strip("-")
+    return Item(ends_of(text, place), code, why_of(*why))
 
 
 def of_line(command: str, above: list[str], line: str) -> Misfit | None:
     """What the program tells of a line below these, which have no fault."""
     text = "".join(f"{one}\n" for one in above) + line
-    return misfit_of(asked(command, len(above) + 1, text.encode("latin1")).split("\t", 12))
+    return misfit_of(line, asked(command, len(above) + 1, text.encode("latin1")).split("\t", 11))
 
 
-def in_script(text: str, number: int, command: str | None = None) -> list[Found]:
+def likeness(command: str, lines: list[str]) -> int:
+    """How like a script is to one of a command: twice the number of lines that begin as its lines do, and have a number
+    where that has a site, in which a job and a transaction differ; and one more where the first begins its header.
+    """
+    known = forms.lines_of(command)
+    said = [words for words in (WORD.findall(line) for line in lines[:MANY] if line[:1] != "#") if words]
+    like = int(bool(said) and said[0][0] == next(iter(known)))
+    for first, *behind in said:
+        places = known[first].places.split() if first in known else []
+        site = behind[places.index("SITE") :][:1] if "SITE" in places else ["0"]
+        like += 2 * bool(first in known and site and re.fullmatch("[0-9]+", site[0]))
+    return like
+
+
+def in_script(text: str, lines: list[str], number: int, command: str | None = None) -> list[Found]:
     """What the program tells of a line of a script, of each command or of this one; the likeliest command first."""
-    rows = [row.split("\t", 15) for row in asked("script", number, text.encode("latin1")).split("\n")]
-    found = [Found(row[0], int(row[1]), int(row[2]), misfit_of(row[3:])) for row in rows]
+    line = lines[number - 1] if number <= len(lines) else ""
+    rows = [row.split("\t", 12) for row in asked("script", number, text.encode("latin1")).split("\n")]
+    found = [Found(row[0], likeness(row[0], lines), int(row[9]), misfit_of(line, row[1:])) for row in rows]
     return sorted((one for one in found if command in (None, one.command)), key=lambda one: -one.likeness)
 
 

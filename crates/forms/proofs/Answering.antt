@@ -1,5 +1,5 @@
 -- What is told of the line that was asked.
-use Rattle.std.proofs.Common.{◌≡◌, ℕ, true, false, is_some, List, ◌∷◌, ◌++◌, Option, Some, None, Result, Ok, Err, Vec, IfOk, Contains, refl, ◌∙◌, ap, sym, subst, inl, inr, append_assoc, true≢false, bytes_eq, codes, decimal}
+use Rattle.std.proofs.Common.{◌≡◌, ℕ, true, false, is_some, List, ◌∷◌, ◌++◌, Option, Some, None, Result, Ok, Err, Vec, IfOk, Contains, refl, ◌∙◌, ap, sym, subst, inl, inr, true≢false, bytes_eq, codes}
 use Rattle.std.specs.Str.Lines.{lines}
 use Rattle.std.specs.declared.alloc.Global.{Global}
 use Rattle.acl_text.specs.Places.{item_place}
@@ -24,9 +24,8 @@ use Rattle.forms.specs.declared.finding.Found.{Found}
 
 -- ---- how a text begins
 
-pub begins_more : (head old new more : List ℕ) → BeginsWith head old → new ≡ old ++ more → BeginsWith head new
-begins_more head old new more begins is =
-    record { rest = begins.rest ++ more; is = is ∙ ap (λ one. one ++ more) begins.is ∙ append_assoc head begins.rest more }
+pub begins_all : (head front more text : List ℕ) → front ≡ head → text ≡ front ++ more → BeginsWith head text
+begins_all head front more text begins is = record { rest = more; is = is ∙ ap (λ (one : List ℕ). one ++ more) begins }
 
 -- ---- what is found of a line
 
@@ -99,10 +98,9 @@ of_line scope forms given script line number at fault head rest text same is fou
 
 -- ---- the same of each command
 
-pub of_command : (command : List ℕ) (forms : Forms) (script text told : List ℕ) (number likeness above : ℕ) → IsOfLine forms script number told
-    → text ≡ (((((command ++ tab) ++ decimal likeness) ++ tab) ++ decimal above) ++ tab) ++ told → IsOfCommand command script number text
-of_command command forms script text told number likeness above is_told is =
-    record { forms = forms; likeness = likeness; above = above; told = told; is_told = is_told; is = is }
+pub of_command : (command : List ℕ) (forms : Forms) (script text told : List ℕ) (number : ℕ) → IsOfLine forms script number told
+    → text ≡ (command ++ tab) ++ told → IsOfCommand command script number text
+of_command command forms script text told number is_told is = record { forms = forms; told = told; is_told = is_told; is = is }
 
 pub of_each : (script play serve table text : List ℕ) (number : ℕ) → IsOfCommand (codes "play") script number play
     → IsOfCommand (codes "serve") script number serve → IsOfCommand (codes "table") script number table

@@ -1,5 +1,5 @@
 -- What is told of the line, or of the item of a list, that was asked.
-use Rattle.std.specs.Prelude.{◌≡◌, ℕ, ◌⊎◌, true, false, is_some, List, [], ◌∷◌, ◌++◌, codes, decimal, Contains, Option, Some, None}
+use Rattle.std.specs.Prelude.{◌≡◌, ℕ, ◌⊎◌, true, false, is_some, List, [], ◌∷◌, ◌++◌, codes, Contains, Option, Some, None}
 use Rattle.std.specs.Str.{bytes_eq}
 use Rattle.std.specs.Str.Lines.{lines}
 use Rattle.acl_text.specs.Places.{item_place}
@@ -55,14 +55,12 @@ pub record IsOfLine (forms : Forms) (script : List ℕ) (number : ℕ) (text : L
   pub is_found : IsFound scope forms (numbered number (lines script)) at fault
   pub begins : BeginsWith (head_at at fault) text
 
--- the same of a command, behind its name, a likeness and the number of a line
+-- the same of a command, behind its name
 pub record IsOfCommand (command : List ℕ) (script : List ℕ) (number : ℕ) (text : List ℕ) : Type 0 where
   pub forms : Forms
-  pub likeness : ℕ
-  pub above : ℕ
   pub told : List ℕ
   pub is_told : IsOfLine forms script number told
-  pub is : text ≡ command ++ tab ++ decimal likeness ++ tab ++ decimal above ++ tab ++ told
+  pub is : text ≡ command ++ tab ++ told
 
 -- the same of each command
 pub record IsOfEach (script : List ℕ) (number : ℕ) (text : List ℕ) : Type 0 where

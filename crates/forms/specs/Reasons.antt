@@ -34,7 +34,7 @@ AreLimitsOf scope place None = Unit {0}
 
 -- this reason is told, and no number but this
 abbrev pub Tells : Numbered → Reasoned → Type 0
-Tells reason told = (told.reason ≡ reason.0) × (told.one ≡ reason.1) × (told.other ≡ None)
+Tells reason told = (told.reason ≡ reason.0) × (told.number ≡ reason.1)
 
 -- the reason that a word is no number is told; of one that has none that it is due
 abbrev pub TellsNumber : Option Numbered → Reasoned → Type 0

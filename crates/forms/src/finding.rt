@@ -2,39 +2,63 @@
 
 ghost use Rattle.std.specs.Prelude.{◌≡◌, ◌∷◌, ◌++◌, Contains, IfOk, OnOk, Some, None};
 ghost use Rattle.std.specs.Bool.{IsTrue};
+ghost use Rattle.script_text.specs.Words.{words};
 ghost use Rattle.suite_script.specs.Misfits.{line_misfit};
-ghost use Rattle.forms.specs.Answers.{IsAt, IsDue, IsOfLine};
-ghost use Rattle.forms.specs.Finding.{BeginsWith, head_at, item_in, item_of_text, place_text, tab};
-ghost use Rattle.forms.specs.Mends.{all_of};
-ghost use Rattle.forms.specs.code.Trials.{FitsIn, IsFaultIn, IsFoundIn};
+ghost use Rattle.forms.specs.Answers.{IsAt, IsDue, IsOfCommand, IsOfEach, IsOfLine};
+ghost use Rattle.forms.specs.Finding.{head_at, item_in, place_text, tab};
+ghost use Rattle.forms.specs.Mends.{FitsOne, all_of};
+ghost use Rattle.forms.specs.code.Trials.{IsFaultIn, IsFoundIn};
 
-use crate::above::Above;
-use crate::first::{mark_of, misplaced_told, unknown_told};
-use crate::list::item_ends;
+use crate::list::{item_of_text, text_told};
 use crate::mend::{Trial, push_field, push_mends, push_word};
-use crate::old::unheld;
-use crate::places::name;
-use crate::reading::{Reading, Standing, is_skipped};
-use crate::reason::{Reason, Reasoned};
-use crate::spot::explained;
-use crate::table::push_places;
-use acl_text::{TextFault, item_place};
+use crate::reading::{Reading, Standing, is_skipped, line_at};
+use crate::reason::{Reason, Reasoned, bytes_told, name_told, number_told};
+use crate::table::{about, limits, push_places};
 use script_text::{Words, push_number};
 use std::alloc::{AllocError, Global};
-use suite_prefix::SettingsFault;
-use suite_script::{Expected, Forms, LineFault, LineForm, push_line_code};
+use suite_prefix::{Form, SettingsFault};
+use suite_script::{
+    Expected, FormEnding, Forms, LineError, LineFault, LineForm, PLAY_LINES, Place, SERVE_LINES,
+    Scope, TABLE_LINES, VERBS, push_line_code, read_votes, root_of,
+};
 
 /// A word that does not fit: its number, its fault, what was expected there (of a line as a whole nothing), the form
-/// that has this place or is due, the number of the form's first word, and why.
+/// that has this place or is due, and the number of the first word that may be one too many for that form.
 #[derive(Clone, Copy)]
-pub(crate) struct Found<'a> {
+pub(crate) struct Found {
     pub(crate) number: u64,
     pub(crate) fault: Option<LineFault>,
     pub(crate) expected: Option<Expected>,
     pub(crate) form: Option<LineForm>,
     pub(crate) begin: u64,
-    pub(crate) is_shifted: bool,
-    pub(crate) told: Reasoned<'a>,
+}
+
+/// What is printed of the line of this number, of each command behind its name.
+#[tactic(auto, using(crate::proofs::Answering::of_each))]
+pub(crate) fn found_of_all(alloc: Global, script: &[u8], number: u64) -> Result<Vec<u8>, AllocError>
+    ensures { IfOk result (λ text. IsOfEach script.now number text.items) }
+{
+    let mut text = of_command(alloc, b"play", PLAY_LINES, script, number)?;
+    text.extend_from_slice(&of_command(alloc, b"serve", SERVE_LINES, script, number)?)?;
+    text.extend_from_slice(&of_command(alloc, b"table", TABLE_LINES, script, number)?)?;
+    Ok(text)
+}
+
+/// The same of a command.
+#[tactic(auto, using(crate::proofs::Answering::of_command))]
+fn of_command(
+    alloc: Global,
+    command: &[u8],
+    forms: Forms,
+    script: &[u8],
+    number: u64,
+) -> Result<Vec<u8>, AllocError>
+    ensures { IfOk result (λ text. IsOfCommand command.now script.now number text.items) }
+{
+    let mut text = Vec::from_slice(alloc, command)?;
+    text.push(b'\t')?;
+    text.extend_from_slice(&found_in(alloc, forms, script, number)?)?;
+    Ok(text)
 }
 
 /// What is printed of the line of this number.
@@ -46,33 +70,28 @@ pub(crate) fn found_in(
 ) -> Result<Vec<u8>, AllocError>
     ensures { IfOk result (λ text. IsOfLine forms script.now number text.items) }
 {
-    let above = Above { script, number };
-    let reading = Reading::of_above(alloc, forms, above)?;
-    let line = above.line();
-    let trial = Trial {
-        alloc,
-        reading: &reading,
-        above,
-        line,
-    };
+    let (reading, above) = Reading::of_above(alloc, forms, script, number)?;
+    let line = line_at(script, number);
+    let reading = &reading;
+    let trial = Trial { reading, line };
     let found = found_of(trial)?;
     let mut text = head_at(alloc, found.number, found.fault)?;
-    let rest = rest_of(trial, explained(trial, found))?;
+    let rest = rest_of(trial, with_form(trial, found), above)?;
     text.extend_from_slice(&rest)?;
     Ok(text)
 }
 
 /// Whether a line has no fault where it stands next.
 #[tactic(auto, using(crate::proofs::Answering::fits_one))]
-pub(crate) fn fits(trial: Trial<'_>) -> Result<bool, AllocError>
-    ensures { IfOk result (λ does. IsTrue does → FitsIn trial.entry) }
+pub(crate) fn fits(reading: &Reading<'_>, line: &[u8]) -> Result<bool, AllocError>
+    ensures { IfOk result (λ does. IsTrue does → FitsOne reading.now.scope (all_of reading.now.forms) (words line.now)) }
 {
-    let found = found_of(trial)?;
-    Ok(!is_skipped(trial.line) && found.fault.is_none())
+    let found = found_of(Trial { reading, line })?;
+    Ok(!is_skipped(line) && found.fault.is_none())
 }
 
 /// What is found of a line.
-fn found_of<'a>(trial: Trial<'a>) -> Result<Found<'a>, AllocError>
+fn found_of(trial: Trial<'_>) -> Result<Found, AllocError>
     ensures { IfOk result (λ found. IsFoundIn trial.entry found.number found.fault) }
 {
     let due = trial.reading.due();
@@ -81,65 +100,66 @@ fn found_of<'a>(trial: Trial<'a>) -> Result<Found<'a>, AllocError>
     }
     let mut words = Words::new(trial.line);
     let Some(first) = words.next() else {
-        let told = Reasoned::of(Reason::Blank, b"");
-        return Ok(of_whole(1, LineFault::Form, due, told));
+        return Ok(of_whole(1, LineFault::Form, due));
     };
     match trial.reading.standing(first) {
-        Standing::Misplaced => {
-            let told = misplaced_told(trial.above, trial.reading, first);
-            Ok(of_whole(1, LineFault::Order, due, told))
-        }
-        Standing::Unknown => {
-            let told = unknown_told(trial.above.number, first);
-            Ok(of_whole(1, LineFault::Form, due, told))
-        }
+        Standing::Misplaced => Ok(of_whole(1, LineFault::Order, due)),
+        Standing::Unknown => Ok(of_whole(1, LineFault::Form, due)),
         Standing::Here(form) => of_standing(trial, form, words),
     }
 }
 
 /// What is found of a line that says nothing, or that there is not: a line of the header may be due behind the last.
-fn of_nothing<'a>(trial: Trial<'a>, due: Option<LineForm>) -> Found<'a>
+fn of_nothing(trial: Trial<'_>, due: Option<LineForm>) -> Found
     ensures { IsDue result.number result.fault }
 {
-    if due.is_some() && trial.above.is_end() {
-        let told = Reasoned::of(Reason::LineEnds, b"");
-        return of_whole(1, LineFault::Order, due, told);
+    if due.is_some() && trial.reading.is_end() {
+        return of_whole(1, LineFault::Order, due);
     }
     of_none(None)
 }
 
 /// What is found of a line whose first word stands in its place: it may stand there once, or ask for what cannot be.
-fn of_standing<'a>(
-    trial: Trial<'a>,
-    form: LineForm,
-    words: Words<'a>,
-) -> Result<Found<'a>, AllocError>
+fn of_standing(trial: Trial<'_>, form: LineForm, words: Words<'_>) -> Result<Found, AllocError>
     requires { Contains (all_of trial.reading.now.forms) form }
     ensures { IfOk result (λ found. IsFaultIn trial.entry (form.word.now ∷ words.entry) found.number found.fault) }
 {
-    let rest = words.rest();
-    if form.word == b"together".as_slice() {
-        if let Some((number, _)) = trial.above.line_of(form.word) {
-            let told = Reasoned::of(Reason::Again, form.word).with(number);
-            return Ok(of_whole(1, LineFault::Form, None, told));
-        }
+    if form.word == b"together".as_slice() && trial.reading.line_of(form.word).is_some() {
+        return Ok(of_whole(1, LineFault::Form, None));
     }
     let found = of_form(trial, form, words)?;
-    if found.fault.is_none() && form.word == b"old".as_slice() {
-        if let Some(told) = unheld(trial.above, rest) {
-            let fault = LineFault::Settings(SettingsFault::OldTooLarge);
-            return Ok(of_whole(2, fault, None, told));
-        }
+    if form.word == b"old".as_slice() && found.fault.is_none() && !is_held(trial)? {
+        let fault = LineFault::Settings(SettingsFault::OldTooLarge);
+        return Ok(of_whole(2, fault, None));
     }
     Ok(found)
 }
 
+/// Whether form 1 holds the root folder of the lines above, which have no fault.
+fn is_held(trial: Trial<'_>) -> Result<bool, AllocError> {
+    let (root, votes) = (
+        trial.reading.line_of(b"root"),
+        trial.reading.line_of(b"votes"),
+    );
+    let (Some(mut root), Some(mut votes)) = (root, votes) else {
+        return Ok(true);
+    };
+    let servers = usize::from(trial.reading.scope.last_server).saturating_add(1);
+    let votes = read_votes(servers, votes.next().unwrap_or(b""));
+    match (root_of(trial.reading.alloc, &mut root), votes) {
+        (Ok(root), Ok(votes)) => Ok(Form::One.holds(&root.acl, &votes)),
+        (Err(LineError::Memory), _) => Err(AllocError),
+        _ => Ok(true),
+    }
+}
+
 /// What is found of a line of a form: the first word that does not fit, if there is one.
-fn of_form<'a>(trial: Trial<'a>, form: LineForm, words: Words<'a>) -> Result<Found<'a>, AllocError>
+fn of_form(trial: Trial<'_>, form: LineForm, words: Words<'_>) -> Result<Found, AllocError>
     ensures { IfOk result (λ found. IsAt (line_misfit trial.entry.reading.now.scope form.places.now form.ending words.entry) found.number found.fault) }
 {
     let found = of_none(Some(form));
-    match trial.reading.scope.misfit(trial.alloc, form, words)? {
+    let reading = trial.reading;
+    match reading.scope.misfit(reading.alloc, form, words)? {
         Some(misfit) => Ok(Found {
             number: misfit.number,
             fault: Some(misfit.fault),
@@ -151,7 +171,7 @@ fn of_form<'a>(trial: Trial<'a>, form: LineForm, words: Words<'a>) -> Result<Fou
 }
 
 /// Nothing is found.
-fn of_none(form: Option<LineForm>) -> Found<'static>
+fn of_none(form: Option<LineForm>) -> Found
     ensures { result.fault ≡ None }
 {
     Found {
@@ -160,21 +180,47 @@ fn of_none(form: Option<LineForm>) -> Found<'static>
         expected: None,
         form,
         begin: 1,
-        is_shifted: false,
-        told: Reasoned::of(Reason::Due, b""),
     }
 }
 
 /// What is found of a line as a whole.
-fn of_whole(number: u64, fault: LineFault, due: Option<LineForm>, told: Reasoned<'_>) -> Found<'_>
+fn of_whole(number: u64, fault: LineFault, due: Option<LineForm>) -> Found
     ensures number { result.number ≡ number }
     ensures fault { result.fault ≡ Some fault }
 {
     Found {
         number,
         fault: Some(fault),
-        told,
         ..of_none(due)
+    }
+}
+
+/// What is found of a word in an operation, with the form of that. Where an operation is due the line has the place, and
+/// of words before it the semicolon alone, or those of the line, may be too many.
+fn with_form(trial: Trial<'_>, found: Found) -> Found {
+    let (Some(line), Some(_)) = (found.form, found.expected) else {
+        return found;
+    };
+    if line.ending != FormEnding::Operations {
+        return found;
+    }
+    let mut begin = 1;
+    let mut verb = (line.places.len() as u64).saturating_add(2);
+    for (number, word) in (1..found.number).zip(Words::new(trial.line)) {
+        if word == b";".as_slice() {
+            begin = number;
+            verb = number.saturating_add(1);
+        }
+    }
+    let word = trial.word(verb);
+    let mut forms = VERBS.iter().map(|verb| verb.form());
+    match forms.find(|form| word == form.word) {
+        Some(form) if verb < found.number => Found {
+            form: Some(form),
+            begin: verb,
+            ..found
+        },
+        _ => Found { begin, ..found },
     }
 }
 
@@ -193,13 +239,14 @@ fn head_at(alloc: Global, number: u64, fault: Option<LineFault>) -> Result<Vec<u
     Ok(text)
 }
 
-/// The fields behind these: what was expected, a form, an item, what would mend the line, and the reason.
-fn rest_of(trial: Trial<'_>, found: Found<'_>) -> Result<Vec<u8>, AllocError> {
-    let mut text = Vec::new(trial.alloc);
+/// The fields behind these: what was expected, a form, an item, what would mend the line, the first line above with a
+/// fault, and the reason.
+fn rest_of(trial: Trial<'_>, found: Found, above: u64) -> Result<Vec<u8>, AllocError> {
+    let mut text = Vec::new(trial.reading.alloc);
     let expected: &[u8] = match (found.fault, found.expected) {
         (None, _) => b"-",
         (_, None) => b"LINE",
-        (_, Some(Expected::Place(place))) => name(place),
+        (_, Some(Expected::Place(place))) => about(place)[0],
         (_, Some(Expected::Operation)) => b"OPERATION",
         (_, Some(Expected::End)) => b"END",
     };
@@ -214,31 +261,29 @@ fn rest_of(trial: Trial<'_>, found: Found<'_>) -> Result<Vec<u8>, AllocError> {
     }
     text.push(b'\t')?;
     let word = trial.word(found.number);
-    let item = found.fault.and_then(|fault| item_in(word, fault));
-    push_item(&mut text, word, item)?;
+    push_place(
+        &mut text,
+        found.fault.and_then(|fault| item_in(word, fault)),
+    )?;
     push_mends(&mut text, trial, found)?;
-    let unseen = match found.fault {
-        Some(LineFault::Form) => hidden(word, trial.line),
-        _ => b"-",
-    };
-    push_field(&mut text, unseen)?;
-    found.told.push(trial.alloc, &mut text, trial.above)?;
+    push_number(&mut text, above)?;
+    text.push(b'\t')?;
+    told_of(&trial.reading.scope, found, word).push(&mut text)?;
     text.push(b'\n')?;
     Ok(text)
 }
 
-/// What cannot be seen of a word or its line.
-fn hidden(word: &[u8], line: &[u8]) -> &'static [u8] {
-    if mark_of(word).is_some() {
-        b"-"
-    } else if word.windows(2).any(|pair| pair == [0xc2, 0xa0].as_slice()) {
-        b"no-break"
-    } else if word.iter().any(|byte| *byte > b'~') {
-        b"bytes"
-    } else if line.contains(&b'\r') {
-        b"return"
-    } else {
-        b"-"
+/// Why a word does not fit.
+fn told_of<'a>(scope: &Scope, found: Found, word: &'a [u8]) -> Reasoned<'a> {
+    match (found.expected, found.fault) {
+        (_, Some(LineFault::List(fault))) => text_told(word, fault),
+        (_, Some(LineFault::BadName)) => name_told(word),
+        (Some(Expected::Place(Place::Contents)), _) => bytes_told(word),
+        (Some(Expected::Place(place)), _) => match limits(scope, place) {
+            Some((least, most)) => number_told(word, least, most),
+            None => Reasoned::of(Reason::Due, word),
+        },
+        _ => Reasoned::of(Reason::Due, word),
     }
 }
 
@@ -252,34 +297,14 @@ fn item_in(word: &[u8], fault: LineFault) -> Option<usize>
     }
 }
 
-pub(crate) fn item_of_text(text: &[u8], fault: TextFault) -> Option<usize>
-    ensures { result ≡ item_of_text text.now fault }
+/// Adds a place with a tab behind it; a hyphen, where there is none.
+pub(crate) fn push_place(text: &mut Vec<u8>, place: Option<usize>) -> Result<(), AllocError>
+    ensures { OnOk result (text.new.items ≡ text.old.items ++ place_text place ++ tab) }
 {
-    match fault {
-        TextFault::Syntax(item) => item_place(text, item),
-        TextFault::UnknownName(item) => item_place(text, item),
-        TextFault::NumberTooBig(item) => item_place(text, item),
-        TextFault::Invalid(_) | TextFault::DefaultInvalid(_) | TextFault::Memory => None,
+    match place {
+        Some(place) => push_number(text, place as u64)?,
+        None => text.push(b'-')?,
     }
-}
-
-/// Adds `ITEM ENDS`, each with a tab behind it: the place of an item, and where it begins and ends without white space.
-pub(crate) fn push_item(
-    text: &mut Vec<u8>,
-    list: &[u8],
-    item: Option<usize>,
-) -> Result<(), AllocError>
-    ensures { OnOk result (BeginsWith (text.old.items ++ place_text item ++ tab) text.new.items) }
-{
-    let Some(place) = item else {
-        return text.extend_from_slice(b"-\t-\t");
-    };
-    let (begin, end) = item_ends(list, place);
-    push_number(text, place as u64)?;
-    text.push(b'\t')?;
-    push_number(text, begin)?;
-    text.push(b' ')?;
-    push_number(text, end)?;
     text.push(b'\t')?;
     Ok(())
 }

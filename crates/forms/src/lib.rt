@@ -10,23 +10,23 @@
 //! - `operation WORD PLACES DOES`.
 //!
 //! With the words COMMAND and NUMBER it reads a script, whose lines above that number have no fault. Of that line it
-//! prints `WORD CODE EXPECTED FORM ITEM ENDS INSTEAD BEFORE SHIFT HIDDEN REASON DATA PART`:
+//! prints `WORD CODE EXPECTED FORM ITEM INSTEAD BEFORE SHIFT REASON NUMBER PART`:
 //!
 //! - the number of the first word that does not fit, the code of the fault, the place where the word stands (or `END`,
 //!   `OPERATION`, `LINE`), the form that has this place or is due;
-//! - of a list's faulty item how many bytes of the word stand before it, and before its ends without white space;
-//! - the words with which the line has no fault in the place of this one, and those before it; what would explain the
-//!   fault as one of a word too many or too few: `path`, where a path seems to have a space, `missing`, where a word is
-//!   missing before it, or the numbers of words without which the line has no fault; and what cannot be seen of it:
-//!   `no-break`, a no-break space, `bytes` that are no ASCII, or `return`, a carriage return in the line;
-//! - why it does not fit: a reason with its data, and the part of the word of which it speaks.
+//! - of a list's faulty item how many bytes of the word stand before it;
+//! - the words with which the line has no fault in the place of this one, and those before it; and what would explain
+//!   the fault as one of a word too many or too few: `path`, where a path seems to have a space, `missing`, where a word
+//!   is missing before it, or the numbers of words without which the line has no fault;
+//! - why it does not fit: a reason with its number, and the part of the word of which it speaks. What the words and the
+//!   lines above show is told by `tools/explain`, and is `due` here.
 //!
 //! With the words `script` and NUMBER it prints this of each command, and before it `COMMAND LIKENESS ABOVE`: how like
 //! the script is to one of this command, and the number of the first line above with a fault, or 0.
 //!
-//! With the words `list` and NUMBER it reads a list, and prints `ITEM ENDS CODE REASON DATA PART` of the item of that
-//! number, or of 0 of the whole list, where each name is taken for one that has a number; with `unnamed`, for one that
-//! has none. A hyphen stands for what there is not.
+//! With the words `list` and NUMBER it reads a list, and prints `ITEM CODE REASON NUMBER PART` of the item of that
+//! number, as a list of its own, or of 0 of the whole list, where each name is taken for one that has a number; with
+//! `unnamed`, for one that has none. A hyphen stands for what there is not.
 //!
 //! **Promises.** What is told is of the line, or of the item of a list, that was asked (`Does`, `IsAnswer`). Of a line
 //! that stands in its place, it begins with the word and the code of the definition (`of_form`: `line_misfit` of
@@ -41,9 +41,8 @@
 //! **Definitions** (`specs/`): `Answers`, `Finding`, `Mends`, `Reasons`, `Runs`.
 //!
 //! **Files**: `places` (their names and limits), `table`, `reading` and `above` (the lines of a script), `finding`
-//! (what is found and printed of one), `whose` (of which command a script is), `lists` (of a list), `spot` (where a word
-//! stands, and why it does not fit), `mend` (what would mend the line), `reason`; for the reasons `first`, `number`
-//! (with bytes and names), `votes`, `list` (with items), `old` (form 1).
+//! (what is found and printed of one), `whose` (of which command a script is), `list`, `mend` (what would mend the
+//! line), `reason`; for the reasons `number` (with bytes) and `permission`.
 #![tactic(auto)]
 
 ghost use Rattle.std.specs.Prelude.{IfOk, map};
@@ -51,33 +50,23 @@ ghost use Rattle.byte_streams.specs.Programs.{Obeys, streams_of};
 ghost use Rattle.forms.specs.Answers.{IsAnswer};
 ghost use Rattle.forms.specs.Runs.{Asks, Does, DoesOf, Ends, Runs};
 
-mod above;
 mod finding;
-mod first;
 mod list;
-mod lists;
 mod mend;
-mod number;
-mod old;
-mod places;
 mod reading;
 mod reason;
-mod spot;
 mod table;
-mod votes;
-mod whose;
 
 use byte_streams::{
     ByteIn, ByteOut, COMMAND_LINE, DONE, MAX_INPUT, finish, finish_line, lack_memory, read_all,
     tell_unread,
 };
-use finding::found_in;
-use lists::found_in_list;
+use finding::{found_in, found_of_all};
+use list::found_in_list;
 use script_text::read_number;
 use std::alloc::{AllocError, Global};
 use suite_script::Forms;
 use table::{lines_of, table};
-use whose::found_of_all;
 
 /// What is asked: what keeps a line of a command's script from its form, or of each command's; or what is wrong with a
 /// list or an item of it, where each name has a number or none has.

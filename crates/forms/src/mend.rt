@@ -7,15 +7,13 @@ ghost use Rattle.script_text.specs.Words.{words};
 ghost use Rattle.forms.specs.Mends.{AreTold, IsWord, changed, field, is_verb, numbered, or_hyphen, placed, put_at, spaced};
 ghost use Rattle.forms.specs.code.Trials.{AddsFields, AddsMends, IsCutIn, IsMissingIn, IsShiftIn, MendsIn, change_of};
 
-use crate::above::Above;
 use crate::finding::{Found, fits};
-use crate::number::is_digits;
-use crate::places::about;
 use crate::reading::{Reading, Standing};
-use crate::reason::Reason;
+use crate::reason::is_digits;
+use crate::table::about;
 use script_text::{Words, push_number};
 use std::alloc::{AllocError, Global};
-use suite_script::{Expected, FormEnding, LineForm, VERBS};
+use suite_script::{Expected, FormEnding, LineFault, LineForm, VERBS};
 
 /// A change of a line at a word of it: that is left out, or another stands in its place or, where so told, before it.
 #[derive(Clone, Copy)]
@@ -81,9 +79,7 @@ fn changed(alloc: Global, line: &[u8], at: u64, change: Change<'_>) -> Result<Ve
 /// A line below those that were read.
 #[derive(Clone, Copy)]
 pub(crate) struct Trial<'a> {
-    pub(crate) alloc: Global,
-    pub(crate) reading: &'a Reading,
-    pub(crate) above: Above<'a>,
+    pub(crate) reading: &'a Reading<'a>,
     pub(crate) line: &'a [u8],
 }
 
@@ -91,11 +87,8 @@ impl<'a> Trial<'a> {
     fn fits(self, at: u64, change: Change<'_>) -> Result<bool, AllocError>
         ensures { IfOk result (λ does. IsTrue does → MendsIn self.entry at (change_of change.entry)) }
     {
-        let line = changed(self.alloc, self.line, at, change)?;
-        fits(Trial {
-            line: &line,
-            ..self
-        })
+        let line = changed(self.reading.alloc, self.line, at, change)?;
+        fits(self.reading, &line)
     }
 
     /// The word of this number; no bytes where the line ends before it.
@@ -129,22 +122,17 @@ impl<'a> Trial<'a> {
         push_word(text, word)
     }
 
-    /// The forms whose first words may mend the line: of a line that begins as none does those of all lines, or before it of
-    /// the one that is due; where an operation is due those of operations.
-    fn candidates(self, found: Found<'_>, is_before: bool) -> Result<Vec<LineForm>, AllocError> {
+    /// The forms whose first words may mend the line: those of lines, where it begins as none, or those of operations.
+    fn candidates(self, found: Found) -> Result<Vec<LineForm>, AllocError> {
         let lines = self.reading.forms;
-        let mut forms = Vec::new(self.alloc);
-        match (found.expected, found.told.reason, found.form) {
-            (None, Reason::Unknown, Some(due)) if is_before => forms.push(due)?,
-            (None, Reason::Unknown, _) => {
-                if !is_before {
-                    forms.extend_from_slice(lines.header)?;
-                    forms.extend_from_slice(lines.optional)?;
+        let mut forms = Vec::new(self.reading.alloc);
+        match (found.expected, found.fault) {
+            (None, Some(LineFault::Form)) => {
+                for part in [lines.header, lines.optional, lines.names, lines.own] {
+                    forms.extend_from_slice(part)?;
                 }
-                forms.extend_from_slice(lines.names)?;
-                forms.extend_from_slice(lines.own)?;
             }
-            (Some(Expected::Operation), Reason::Due, _) => {
+            (Some(Expected::Operation), _) => {
                 for verb in VERBS.iter() {
                     forms.push(verb.form())?;
                 }
@@ -156,11 +144,11 @@ impl<'a> Trial<'a> {
 
     /// The words that mend the line, in the place of the one that does not fit or before it, with a space behind each.
     #[tactic(auto, using(crate::proofs::Mending::adds_none, crate::proofs::Mending::adds_more, crate::proofs::Mending::told_all))]
-    fn words(self, found: Found<'_>, is_before: bool) -> Result<Vec<u8>, AllocError>
-        ensures { IfOk result (λ text. AreTold (λ word. MendsIn self.entry found.entry.number (placed is_before word)) text.items) }
+    fn words(self, found: Found, is_before: bool) -> Result<Vec<u8>, AllocError>
+        ensures { IfOk result (λ text. AreTold (λ word. MendsIn self.entry found.number (placed is_before word)) text.items) }
     {
-        let mut text = Vec::new(self.alloc);
-        let forms = self.candidates(found, is_before)?;
+        let mut text = Vec::new(self.reading.alloc);
+        let forms = self.candidates(found)?;
         for form in forms.as_slice() {
             self.push_if(&mut text, found.number, form.word, is_before)?;
         }
@@ -172,7 +160,7 @@ impl<'a> Trial<'a> {
     fn without(self, from: u64, below: u64) -> Result<Vec<u8>, AllocError>
         ensures { IfOk result (λ text. IsShiftIn self.entry text.items) }
     {
-        let mut text = Vec::new(self.alloc);
+        let mut text = Vec::new(self.reading.alloc);
         for at in from..below {
             if !self.fits(at, Change::Without)? {
                 continue;
@@ -185,7 +173,7 @@ impl<'a> Trial<'a> {
 
     /// Whether the line has its form with a word more, which stands in a place of the form up to that of the word.
     #[tactic(auto, using(crate::proofs::Mending::is_missing))]
-    fn is_missing(self, form: LineForm, found: Found<'_>) -> Result<bool, AllocError>
+    fn is_missing(self, form: LineForm, found: Found) -> Result<bool, AllocError>
         ensures { IfOk result (λ does. IsTrue does → IsMissingIn self.entry) }
     {
         let last = match form.ending {
@@ -217,7 +205,7 @@ impl<'a> Trial<'a> {
         let Standing::Here(form) = self.reading.standing(first) else {
             return Ok(false);
         };
-        let Some(misfit) = self.reading.scope.misfit(self.alloc, form, words)? else {
+        let Some(misfit) = self.reading.scope.misfit(self.reading.alloc, form, words)? else {
             return Ok(false);
         };
         let (FormEnding::Operations, Expected::End) = (form.ending, misfit.expected) else {
@@ -232,25 +220,25 @@ impl<'a> Trial<'a> {
     /// What would explain the fault as one of a word too many or too few: `path` where a path seems to have a space,
     /// `missing` where a word is missing before, or numbers of words that may be too many.
     #[tactic(auto, using(crate::proofs::Mending::path_told, crate::proofs::Mending::missing_told, crate::proofs::Mending::none_told))]
-    fn shift(self, found: Found<'_>) -> Result<Vec<u8>, AllocError>
+    fn shift(self, found: Found) -> Result<Vec<u8>, AllocError>
         ensures { IfOk result (λ text. IsShiftIn self.entry text.items) }
     {
-        let (Some(form), true) = (found.form, found.is_shifted) else {
-            return Ok(Vec::new(self.alloc));
+        let (Some(form), Some(expected)) = (found.form, found.expected) else {
+            return Ok(Vec::new(self.reading.alloc));
         };
         let from = found.begin.max(2);
-        if found.expected == Some(Expected::End) {
+        if expected == Expected::End {
             if self.is_cut()? {
-                return Vec::from_slice(self.alloc, b"path");
+                return Vec::from_slice(self.reading.alloc, b"path");
             }
             return self.without(from, found.number);
         }
         if self.is_missing(form, found)? {
-            return Vec::from_slice(self.alloc, b"missing");
+            return Vec::from_slice(self.reading.alloc, b"missing");
         }
         let after = found.number.saturating_add(1);
         if is_digits(self.word(found.number)) && self.word(after).is_empty() {
-            return Ok(Vec::new(self.alloc));
+            return Ok(Vec::new(self.reading.alloc));
         }
         self.without(from, after)
     }
@@ -283,9 +271,9 @@ fn is_word(text: &[u8]) -> bool
 pub(crate) fn push_mends(
     text: &mut Vec<u8>,
     trial: Trial<'_>,
-    found: Found<'_>,
+    found: Found,
 ) -> Result<(), AllocError>
-    ensures { OnOk result (AddsFields trial.entry found.entry.number text.old.items text.new.items) }
+    ensures { OnOk result (AddsFields trial.entry found.number text.old.items text.new.items) }
 {
     let instead = trial.words(found, false)?;
     let before = trial.words(found, true)?;

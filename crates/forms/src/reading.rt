@@ -3,12 +3,13 @@
 ghost use Rattle.std.specs.Prelude.{◌≡◌, Contains, IfOk, IfSome};
 ghost use Rattle.std.specs.List.{find};
 ghost use Rattle.std.specs.Str.{bytes_eq};
+ghost use Rattle.std.specs.Str.Lines.{lines};
 ghost use Rattle.suite_script.specs.Scripts.{is_skipped};
-ghost use Rattle.forms.specs.Mends.{form_in};
+ghost use Rattle.forms.specs.Mends.{form_in, numbered};
 ghost use Rattle.forms.specs.code.Trials.{StandsIn};
 
-use crate::above::Above;
-use crate::lists::is_noted;
+use crate::finding::fits;
+use crate::list::is_noted;
 use acl_text::Names;
 use script_text::{Lines, Words, read_number};
 use std::alloc::{AllocError, Global};
@@ -16,16 +17,19 @@ use suite_prefix::MAX_AGENTS;
 use suite_script::{Forms, LineForm, Place, Scope};
 use vote_core::MAX_SERVERS;
 
-/// A script that was read up to some line.
+/// A script that was read up to the line of some number.
 #[derive(Drop)]
-pub(crate) struct Reading {
+pub(crate) struct Reading<'a> {
+    pub(crate) alloc: Global,
     pub(crate) forms: Forms,
+    script: &'a [u8],
+    number: u64,
     /// How many lines of the header came.
     header: usize,
     /// Whether the line came that may stand at the header's end, or one after it.
     is_open: bool,
-    /// The first line of the command's own, by its number; 0 where none came.
-    pub(crate) begun: u64,
+    /// Whether a line of the command's own came.
+    is_begun: bool,
     pub(crate) scope: Scope,
 }
 
@@ -50,14 +54,14 @@ pub(crate) fn widest(alloc: Global) -> Scope {
 }
 
 /// The form of a line that begins with a word.
-pub(crate) fn form_of(forms: &[LineForm], word: &[u8]) -> Option<LineForm>
+fn form_of(forms: &[LineForm], word: &[u8]) -> Option<LineForm>
     ensures { result ≡ find (λ form. bytes_eq word.now form.word.now) forms.now }
 {
     forms.iter().copied().find(|form| word == form.word)
 }
 
 /// The form of a line of a script that begins with a word.
-pub(crate) fn known(forms: Forms, word: &[u8]) -> Option<LineForm>
+fn known(forms: Forms, word: &[u8]) -> Option<LineForm>
     ensures { result ≡ form_in forms word.now }
 {
     form_of(forms.header, word)
@@ -66,33 +70,49 @@ pub(crate) fn known(forms: Forms, word: &[u8]) -> Option<LineForm>
         .or(form_of(forms.own, word))
 }
 
-impl Reading {
-    /// Nothing was read yet.
-    pub(crate) fn new(alloc: Global, forms: Forms) -> Reading
-        ensures { result.forms ≡ forms }
-    {
-        Reading {
-            forms,
-            header: 0,
-            is_open: true,
-            begun: 0,
-            scope: widest(alloc),
-        }
-    }
-
-    /// The lines above one, which have no fault.
+impl<'a> Reading<'a> {
+    /// The lines above that of a number; and the number of the first of them that has a fault, or 0.
     pub(crate) fn of_above(
         alloc: Global,
         forms: Forms,
-        above: Above<'_>,
-    ) -> Result<Reading, AllocError>
-        ensures { IfOk result (λ reading. reading.forms ≡ forms) }
+        script: &'a [u8],
+        number: u64,
+    ) -> Result<(Reading<'a>, u64), AllocError>
+        ensures { IfOk result (λ read. read.0.forms ≡ forms) }
     {
-        let mut reading = Reading::new(alloc, forms);
-        for (number, line) in (1..above.number).zip(Lines::new(above.script)) {
-            reading.take(number, line)?;
+        let mut fault = 0;
+        let mut reading = Reading {
+            alloc,
+            forms,
+            script,
+            number,
+            header: 0,
+            is_open: true,
+            is_begun: false,
+            scope: widest(alloc),
+        };
+        for (at, line) in (1..number).zip(Lines::new(script)) {
+            reading.number = at;
+            if fault == 0 && !is_skipped(line) && !fits(&reading, line)? {
+                fault = at;
+            }
+            reading.take(line)?;
         }
-        Ok(reading)
+        reading.number = number;
+        Ok((reading, fault))
+    }
+
+    /// Whether the line of its number would come right behind the last.
+    pub(crate) fn is_end(&self) -> bool {
+        (Lines::new(self.script).count() as u64).saturating_add(1) == self.number
+    }
+
+    /// The words behind the first one of the first line above that begins with this one.
+    pub(crate) fn line_of(&self, word: &[u8]) -> Option<Words<'a>> {
+        (1..self.number).zip(Lines::new(self.script)).find_map(|(_, line)| {
+            let mut words = Words::new(line);
+            (words.next()? == word).then_some(words)
+        })
     }
 
     /// The line of the header that is due, if one is.
@@ -114,7 +134,7 @@ impl Reading {
             if let Some(form) = form_of(self.forms.own, word) {
                 return Standing::Here(form);
             }
-            if let (Some(form), 0) = (form_of(self.forms.names, word), self.begun) {
+            if let (Some(form), false) = (form_of(self.forms.names, word), self.is_begun) {
                 return Standing::Here(form);
             }
             if let (Some(form), true) = (form_of(self.forms.optional, word), self.is_open) {
@@ -127,8 +147,8 @@ impl Reading {
         }
     }
 
-    /// Takes the line of this number, which has no fault.
-    pub(crate) fn take(&mut self, number: u64, line: &[u8]) -> Result<(), AllocError>
+    /// Takes the next line, which has no fault.
+    pub(crate) fn take(&mut self, line: &[u8]) -> Result<(), AllocError>
         ensures { self.new.forms ≡ self.old.forms }
     {
         let mut words = Words::new(line);
@@ -142,9 +162,7 @@ impl Reading {
             self.header = self.header.saturating_add(1);
         } else {
             self.is_open = false;
-            if self.begun == 0 && form_of(self.forms.own, first).is_some() {
-                self.begun = number;
-            }
+            self.is_begun = self.is_begun || form_of(self.forms.own, first).is_some();
         }
         self.note(form, words)
     }
@@ -165,6 +183,20 @@ impl Reading {
         }
         Ok(())
     }
+}
+
+/// The line of a number; no bytes where there is none.
+pub(crate) fn line_at(script: &[u8], number: u64) -> &[u8]
+    ensures { result.now ≡ numbered number (lines script.now) }
+{
+    let mut left = number;
+    for line in Lines::new(script) {
+        if left == 1 {
+            return line;
+        }
+        left = left.saturating_sub(1);
+    }
+    b""
 }
 
 /// Whether a line says nothing.

@@ -1,186 +1,235 @@
-//! Why a word does not fit, as data: a reason, the numbers that matter, and the part of the word of which it speaks.
+//! Why a word does not fit, as data: a reason, a number that is told of it, and the part of the word of which it speaks.
 
-ghost use Rattle.std.specs.Prelude.{◌≡◌, None, Some};
-ghost use Rattle.forms.specs.Reasons.{Tells};
+ghost use Rattle.std.specs.Prelude.{◌≡◌, ◌↔◌, nat_le, false, true, MatchOption, None};
+ghost use Rattle.std.specs.Char.{is_ascii_digit, is_ascii_hexdigit};
+ghost use Rattle.std.specs.List.{list_all};
+ghost use Rattle.acl_text.specs.Grammar.{are_permissions, is_permission_byte, permission_bytes, times_in};
+ghost use Rattle.acl_text.specs.Qualifiers.{is_name_byte};
+ghost use Rattle.script_text.specs.Numbers.{is_number};
+ghost use Rattle.forms.specs.Reasons.{Tells, TellsNumber, bytes_reason, number_reason};
 
-use crate::above::Above;
-use crate::first::push_commands;
-use crate::list::{Kind, push_same};
-use crate::mend::{push_field, push_word};
-use script_text::push_number;
-use std::alloc::{AllocError, Global};
+use crate::mend::push_field;
+use script_text::{push_number, read_number};
+use std::alloc::AllocError;
+use std::slice::from_ref;
 
-/// Why a word does not fit. `tools/explain/reasons.py` has the sentence of each, with its data, by the words of its name.
-#[derive(Clone, Copy, PartialEq, Eq, Debug)]
+/// Why a word does not fit. `Due` says nothing but that another is due: what the words show themselves, and the lines
+/// above, `tools/explain/whys.py` tells.
+#[derive(Clone, Copy)]
 pub(crate) enum Reason {
     Due,
-    LineEnds,
-    OperationEnds,
-    Comment,
-    Semicolon,
     NoNumber,
-    Named,
     Below,
     Above,
-    Gap,
-    Many,
-    NoVotes,
-    NoShare,
-    NoCollected,
-    NoServer,
-    BeyondLast,
-    AllZero,
-    ReadCollects,
-    WriteCollects,
-    ReadMissesWrite,
-    WritesDisjoint,
     OddDigits,
     NoDigits,
-    Length,
-    NoNameByte,
-    AllDigits,
-    Taken,
-    NoKeyword,
-    UnknownKeyword,
-    NoColon,
-    OneColon,
-    Colons,
-    NamesSomebody,
     Digit,
     NoPermission,
     Twice,
     Hyphens,
-    MarkedNothing,
-    Nobody,
-    OfOtherKind,
-    CarriageReturn,
-    NoList,
-    NoMode,
-    Lacks,
-    Doubled,
-    Unmasked,
-    Few,
-    Blank,
-    Mark,
-    Elsewhere,
-    WordMissing,
-    Unknown,
-    StandsAbove,
-    NamesBelow,
-    BehindHeader,
-    Again,
-    OldDefault,
-    OldEntries,
-    OldServer,
+    NoNameByte,
 }
 
-/// A reason with its data: a kind of entry and numbers; and the word and the part of it of which it speaks.
+/// A reason with its number, if it has one, and the part of the word of which it speaks.
 #[derive(Clone, Copy)]
 pub(crate) struct Reasoned<'a> {
     pub(crate) reason: Reason,
-    kind: Option<Kind>,
-    one: Option<u64>,
-    other: Option<u64>,
-    pub(crate) word: &'a [u8],
+    number: Option<u64>,
     part: &'a [u8],
 }
 
 impl<'a> Reasoned<'a> {
-    /// A reason without data that speaks of a whole word.
-    pub(crate) fn of(reason: Reason, word: &'a [u8]) -> Reasoned<'a>
+    /// A reason without a number.
+    pub(crate) fn of(reason: Reason, part: &'a [u8]) -> Reasoned<'a>
         ensures reason { result.reason ≡ reason }
-        ensures numbers { (result.one ≡ None) × (result.other ≡ None) }
-        ensures part { result.part.now ≡ word.now }
+        ensures number { result.number ≡ None }
+        ensures part { result.part.now ≡ part.now }
     {
-        Reasoned {
-            reason,
-            kind: None,
-            one: None,
-            other: None,
-            word,
-            part: word,
-        }
+        Reasoned::numbered((reason, None), part)
     }
 
     /// A reason with the number that is told of it, if one is.
-    pub(crate) fn numbered(reason: (Reason, Option<u64>), word: &'a [u8]) -> Reasoned<'a>
+    fn numbered(reason: (Reason, Option<u64>), part: &'a [u8]) -> Reasoned<'a>
         ensures told { Tells reason result }
-        ensures part { result.part.now ≡ word.now }
-    {
-        Reasoned {
-            one: reason.1,
-            ..Reasoned::of(reason.0, word)
-        }
-    }
-
-    /// The same with a number.
-    pub(crate) fn with(mut self, number: u64) -> Reasoned<'a>
-        ensures { result ≡ record self.entry { one = Some number } }
-    {
-        self.one = Some(number);
-        self
-    }
-
-    /// The same with a number more.
-    pub(crate) fn and(mut self, number: u64) -> Reasoned<'a>
-        ensures { result ≡ record self.entry { other = Some number } }
-    {
-        self.other = Some(number);
-        self
-    }
-
-    /// The same of a part of the word.
-    pub(crate) fn at(mut self, part: &'a [u8]) -> Reasoned<'a>
-        ensures reason { result.reason ≡ self.entry.reason }
         ensures part { result.part.now ≡ part.now }
     {
-        self.part = part;
-        self
+        Reasoned {
+            reason: reason.0,
+            number: reason.1,
+            part,
+        }
     }
 
-    /// The same of a kind of entry.
-    pub(crate) fn of_kind(mut self, kind: Kind) -> Reasoned<'a> {
-        self.kind = Some(kind);
-        self
-    }
-
-    /// Adds `REASON DATA PART`: the words of its name with hyphens between them, its data with spaces between them, and
-    /// the part of the word.
-    pub(crate) fn push(
-        self,
-        alloc: Global,
-        text: &mut Vec<u8>,
-        above: Above<'_>,
-    ) -> Result<(), AllocError> {
-        let reason = self.reason;
-        let name = format!(in alloc; "{reason:?}")?;
-        for (place, byte) in name.as_bytes().iter().enumerate() {
-            if place > 0 && byte.is_ascii_uppercase() {
-                text.push(b'-')?;
-            }
-            text.push(byte.to_ascii_lowercase())?;
+    /// Adds `REASON NUMBER PART`.
+    pub(crate) fn push(self, text: &mut Vec<u8>) -> Result<(), AllocError> {
+        let name: &[u8] = match self.reason {
+            Reason::Due => b"due",
+            Reason::NoNumber => b"no-number",
+            Reason::Below => b"below",
+            Reason::Above => b"above",
+            Reason::OddDigits => b"odd-digits",
+            Reason::NoDigits => b"no-digits",
+            Reason::Digit => b"digit",
+            Reason::NoPermission => b"no-permission",
+            Reason::Twice => b"twice",
+            Reason::Hyphens => b"hyphens",
+            Reason::NoNameByte => b"no-name-byte",
+        };
+        push_field(text, name)?;
+        match self.number {
+            Some(number) => push_number(text, number)?,
+            None => text.push(b'-')?,
         }
         text.push(b'\t')?;
-        let data = self.data(alloc, above)?;
-        push_field(text, data.strip_suffix(b" ").unwrap_or(b""))?;
         text.extend_from_slice(self.part)
     }
+}
 
-    /// Its data, each with a space behind it: a kind of entry, numbers, commands.
-    fn data(self, alloc: Global, above: Above<'_>) -> Result<Vec<u8>, AllocError> {
-        let mut data = Vec::new(alloc);
-        if let Some(kind) = self.kind {
-            push_word(&mut data, kind.word())?;
+/// Whether all bytes are digits.
+fn are_digits(word: &[u8]) -> bool
+    ensures { result ≡ list_all is_ascii_digit word.now }
+{
+    word.iter().all(|byte| byte.is_ascii_digit())
+}
+
+/// Whether a word has digits, and nothing else.
+pub(crate) fn is_digits(word: &[u8]) -> bool
+    ensures { result ≡ is_number word.now }
+{
+    0 < word.len() && are_digits(word)
+}
+
+/// Why a word is no number within its limits, if it is none; and the limit that it passes.
+fn number_reason(word: &[u8], least: u64, most: u64) -> Option<(Reason, Option<u64>)>
+    ensures { result ≡ number_reason least most word.now }
+{
+    match read_number(word, most) {
+        Some(number) if number < least => Some((Reason::Below, Some(least))),
+        Some(_) => None,
+        None if is_digits(word) => Some((Reason::Above, Some(most))),
+        None => Some((Reason::NoNumber, None)),
+    }
+}
+
+/// What is told of a number.
+pub(crate) fn number_told(word: &[u8], least: u64, most: u64) -> Reasoned<'_>
+    ensures told { TellsNumber (number_reason least most word.now) result }
+    ensures part { result.part.now ≡ word.now }
+{
+    let reason = number_reason(word, least, most);
+    Reasoned::numbered(reason.unwrap_or((Reason::Due, None)), word)
+}
+
+/// Whether a word has hexadecimal digits alone.
+fn is_hexadecimal(word: &[u8]) -> bool
+    ensures { result ≡ list_all is_ascii_hexdigit word.now }
+{
+    word.iter().all(|byte| byte.is_ascii_hexdigit())
+}
+
+/// Why a word is no bytes, and how many digits it then has.
+fn bytes_reason(word: &[u8]) -> (Reason, Option<u64>)
+    ensures { result ≡ bytes_reason word.now }
+{
+    if is_hexadecimal(word) {
+        (Reason::OddDigits, Some(word.len() as u64))
+    } else {
+        (Reason::NoDigits, None)
+    }
+}
+
+/// What is told of bytes in hexadecimal digits.
+pub(crate) fn bytes_told(word: &[u8]) -> Reasoned<'_>
+    ensures told { Tells (bytes_reason word.now) result }
+    ensures part { result.part.now ≡ word.now }
+{
+    Reasoned::numbered(bytes_reason(word), word)
+}
+
+fn is_permission(byte: u8) -> bool
+    ensures { result ≡ is_permission_byte byte }
+{
+    matches!(byte, b'r' | b'w' | b'x' | b'-')
+}
+
+/// How often a byte stands in a field.
+fn count_of(field: &[u8], byte: u8) -> usize
+    ensures { result ≡ times_in byte field.now }
+{
+    field.iter().filter(|one| **one == byte).count()
+}
+
+/// The first byte of a field that is no permission.
+fn no_permission(field: &[u8]) -> Option<&[u8]>
+    ensures { MatchOption result (list_all is_permission_byte field.now ≡ true)
+        (λ part. (list_all is_permission_byte field.now ≡ false) × (list_all is_permission_byte part.now ≡ false)) }
+{
+    for byte in field {
+        if !is_permission(*byte) {
+            return Some(from_ref(byte));
         }
-        for number in [self.one, self.other].into_iter().flatten() {
-            push_number(&mut data, number)?;
-            data.push(b' ')?;
+    }
+    None
+}
+
+/// The letter that stands twice in a field.
+fn doubled_letter(field: &[u8]) -> Option<&[u8]>
+    ensures { MatchOption result (list_all (λ byte. nat_le (times_in byte field.now) 1) permission_bytes ≡ true)
+        (λ _. list_all (λ byte. nat_le (times_in byte field.now) 1) permission_bytes ≡ false) }
+{
+    if count_of(field, b'r') > 1 {
+        Some(b"r")
+    } else if count_of(field, b'w') > 1 {
+        Some(b"w")
+    } else if count_of(field, b'x') > 1 {
+        Some(b"x")
+    } else {
+        None
+    }
+}
+
+/// Why a field is no permissions, if it is none; and the part of it that is wrong.
+pub(crate) fn permissions_told(field: &[u8]) -> Reasoned<'_>
+    ensures { (result.reason ≡ Reason.Due) ↔ (are_permissions field.now ≡ true) }
+{
+    if matches!(field, [b'0'..=b'7']) {
+        return Reasoned::of(Reason::Digit, field);
+    }
+    if let Some(part) = no_permission(field) {
+        return Reasoned::of(Reason::NoPermission, part);
+    }
+    if let Some(letter) = doubled_letter(field) {
+        return Reasoned::of(Reason::Twice, letter);
+    }
+    if count_of(field, b'-') > 3 {
+        return Reasoned::of(Reason::Hyphens, field);
+    }
+    Reasoned::of(Reason::Due, field)
+}
+
+fn is_name_byte(byte: u8) -> bool
+    ensures { result ≡ is_name_byte byte }
+{
+    (33..=126).contains(&byte) && !matches!(byte, b':' | b',' | b'#' | b'\\')
+}
+
+/// The first byte that stands in no name.
+fn no_name_byte(word: &[u8]) -> Option<&[u8]>
+    ensures { MatchOption result (list_all is_name_byte word.now ≡ true)
+        (λ part. (list_all is_name_byte word.now ≡ false) × (list_all is_name_byte part.now ≡ false)) }
+{
+    for byte in word {
+        if !is_name_byte(*byte) {
+            return Some(from_ref(byte));
         }
-        match (self.reason, self.one) {
-            (Reason::Doubled, Some(first)) => push_same(&mut data, above, self.word, first)?,
-            (Reason::Elsewhere, _) => push_commands(&mut data, self.word)?,
-            _ => {}
-        }
-        Ok(data)
+    }
+    None
+}
+
+/// What is told of a name.
+pub(crate) fn name_told(word: &[u8]) -> Reasoned<'_> {
+    match no_name_byte(word) {
+        Some(part) => Reasoned::of(Reason::NoNameByte, part),
+        None => Reasoned::of(Reason::Due, word),
     }
 }

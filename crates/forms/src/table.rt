@@ -1,17 +1,107 @@
-//! The table of forms, as it is printed.
+//! The table of forms, as it is printed: the places, with their names and limits, the lines, and the operations.
 
-use crate::mend::{push_field, push_word};
-use crate::places::{PLACES, about, name, push_limits};
+ghost use Rattle.forms.specs.Reasons.{AreLimitsOf};
+
+use crate::mend::push_field;
 use crate::reading::widest;
+use script_text::push_number;
 use std::alloc::{AllocError, Global};
-use suite_script::{FormEnding, Forms, LineForm, PLAY_LINES, SERVE_LINES, TABLE_LINES, VERBS};
+use suite_prefix::{MAX_AGENTS, MAX_CACHE, MAX_SLOTS};
+use suite_script::Place::{
+    Agent, Agents, Budget, Contents, Gid, Gids, GroupName, Init, Lists, Old, OpeningVotes, Path,
+    Quota, Server, Servers, Site, Slots, Steps, Uid, UserName, Votes,
+};
+use suite_script::{
+    FormEnding, Forms, LAST_SITE, LineForm, MAX_STEPS, PLAY_LINES, Place, SERVE_LINES, Scope,
+    TABLE_LINES, VERBS,
+};
+use vote_core::MAX_SERVERS;
+
+/// The places, of those with one name one.
+const PLACES: [Place; 19] = [
+    Servers, Agents, Votes, Uid, Gid, Init, Budget, Quota, Slots, Old, UserName, Agent, Server,
+    Site, Steps, Gids, Path, Contents, Lists,
+];
 
 /// The commands, with the lines of their scripts.
-pub(crate) const COMMANDS: [(&[u8], Forms); 3] = [
+const COMMANDS: [(&[u8], Forms); 3] = [
     (b"play", PLAY_LINES),
     (b"serve", SERVE_LINES),
     (b"table", TABLE_LINES),
 ];
+
+/// The name of a place, a word that fits there in a script with one server and one agent too, and what stands there.
+pub(crate) fn about(place: Place) -> [&'static [u8]; 3] {
+    match place {
+        Servers => [b"SERVERS", b"32", b"how many servers there are"],
+        Agents => [b"AGENTS", b"64", b"how many agents there are"],
+        Votes | OpeningVotes => [b"VOTES", b"1/1/1", b"votes such as 1,1,1/2/2"],
+        Uid => [b"UID", b"0", b"the number of a user"],
+        Gid => [b"GID", b"0", b"the number of a group"],
+        Init => [b"INIT", b"644", b"three octal digits or a list"],
+        Budget => [b"BUDGET", b"0", b"the most bytes of a cache"],
+        Quota => [b"QUOTA", b"0", b"the most bytes of a site's part of it"],
+        Slots => [b"SLOTS", b"0", b"the most entries of a cache"],
+        Old => [b"OLD", b"0", b"numbers of servers with commas between them"],
+        UserName | GroupName => [b"NAME", b"~", b"a name"],
+        Agent => [b"A", b"0", b"the number of an agent"],
+        Server => [b"S", b"0", b"the number of a server"],
+        Site => [b"SITE", b"0", b"a number from 0 to 15"],
+        Steps => [b"N", b"0", b"how many steps"],
+        Gids => [
+            b"GIDS",
+            b"0",
+            b"the numbers of the user's groups with commas between them",
+        ],
+        Path => [b"PATH", b"/a", b"a path"],
+        Contents => [
+            b"HEX",
+            b"00",
+            b"hexadecimal digits, two a byte, or - for none",
+        ],
+        Lists => [b"LIST", b"u::r,g::r,o::r", b"a list"],
+    }
+}
+
+/// The least and the most of a number in its place.
+pub(crate) fn limits(scope: &Scope, place: Place) -> Option<(u64, u64)>
+    ensures { AreLimitsOf scope.now place result }
+{
+    match place {
+        Servers => Some((1, MAX_SERVERS as u64)),
+        Agents => Some((1, MAX_AGENTS as u64)),
+        Uid | Gid => Some((0, u64::from(u32::MAX))),
+        Budget | Quota => Some((0, MAX_CACHE as u64)),
+        Slots => Some((0, MAX_SLOTS as u64)),
+        Agent => Some((0, u64::from(scope.last_agent))),
+        Server => Some((0, u64::from(scope.last_server))),
+        Site => Some((0, u64::from(LAST_SITE))),
+        Steps => Some((0, MAX_STEPS)),
+        _ => None,
+    }
+}
+
+/// Adds the least and the most of a number in its place, and the code of one beyond; a hyphen for each where it is none.
+fn push_limits(text: &mut Vec<u8>, scope: &Scope, place: Place) -> Result<(), AllocError> {
+    let Some((least, most)) = limits(scope, place) else {
+        return text.extend_from_slice(b"-\t-\t-\t");
+    };
+    push_number(text, least)?;
+    text.push(b'\t')?;
+    match place {
+        Agent => text.extend_from_slice(b"agents\t")?,
+        Server => text.extend_from_slice(b"servers\t")?,
+        _ => {
+            push_number(text, most)?;
+            text.push(b'\t')?;
+        }
+    }
+    text.extend_from_slice(match place {
+        Servers | Agents => b"G1\t",
+        Budget | Quota | Slots => b"G3\t",
+        _ => b"S1\t",
+    })
+}
 
 /// The lines of a command's scripts, by the command's name.
 pub(crate) fn lines_of(command: &[u8]) -> Option<Forms> {
@@ -27,7 +117,6 @@ pub(crate) fn table(alloc: Global) -> Result<Vec<u8>, AllocError> {
         let [name, sample, meaning] = about(place);
         push_fields(&mut text, &[b"place", name])?;
         push_limits(&mut text, &scope, place)?;
-        text.push(b'\t')?;
         push_field(&mut text, meaning)?;
         text.extend_from_slice(sample)?;
         text.push(b'\n')?;
@@ -75,7 +164,7 @@ pub(crate) fn push_places(text: &mut Vec<u8>, form: LineForm) -> Result<(), Allo
     let mut gap: &[u8] = b"";
     for place in form.places {
         text.extend_from_slice(gap)?;
-        text.extend_from_slice(name(*place))?;
+        text.extend_from_slice(about(*place)[0])?;
         gap = b" ";
     }
     match form.ending {
@@ -83,7 +172,7 @@ pub(crate) fn push_places(text: &mut Vec<u8>, form: LineForm) -> Result<(), Allo
         FormEnding::Perhaps(place) => {
             text.extend_from_slice(gap)?;
             text.push(b'[')?;
-            text.extend_from_slice(name(place))?;
+            text.extend_from_slice(about(place)[0])?;
             text.extend_from_slice(b"]")
         }
         FormEnding::Operations => {

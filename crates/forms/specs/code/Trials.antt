@@ -1,11 +1,10 @@
 -- What a trial of a line comes to, by the fields of the code.
 use Rattle.std.specs.Prelude.{◌≡◌, ℕ, Bool, true, is_some, List, ◌++◌, Contains, Option, None}
-use Rattle.script_text.specs.Words.{words}
 use Rattle.suite_script.specs.Words.{Word}
 use Rattle.suite_script.specs.declared.fault.LineFault.{LineFault}
 use Rattle.suite_script.specs.declared.form.Forms.{Forms}
 use Rattle.forms.specs.Answers.{IsFaultOf, IsFound}
-use Rattle.forms.specs.Mends.{AreMends, AreTold, Edit, FitsOne, Without, IsCut, IsMissing, IsShift, IsTooMany, Mends, all_of, form_in, placed}
+use Rattle.forms.specs.Mends.{AreMends, AreTold, Edit, Without, IsCut, IsMissing, IsShift, IsTooMany, Mends, all_of, form_in, placed}
 use Rattle.forms.specs.declared.mend.Change.{Change}
 use Rattle.forms.specs.declared.mend.Change.TheVariants as code
 use Rattle.forms.specs.declared.mend.Trial.{Trial}
@@ -29,9 +28,6 @@ IsFoundIn trial number fault = IsFound trial.reading.now.scope trial.reading.now
 
 abbrev pub IsFaultIn : Trial → List Word → ℕ → Option LineFault → Type 0
 IsFaultIn trial words number fault = IsFaultOf trial.reading.now.scope trial.reading.now.forms words number fault
-
-abbrev pub FitsIn : Trial → Type 0
-FitsIn trial = FitsOne trial.reading.now.scope (all_of trial.reading.now.forms) (words trial.line.now)
 
 abbrev pub MendsIn : Trial → ℕ → Edit → Type 0
 MendsIn trial at change = Mends trial.reading.now.scope trial.reading.now.forms trial.line.now at change
