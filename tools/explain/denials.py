@@ -10,8 +10,6 @@ from common import built
 from explain import faults
 
 OPEN = "u::rwx,g::rwx,o::rwx"
-# What is told of an operation that was denied.
-DENIED = re.compile(r"op (\d+) suite (\d+) wants (\S+) by (\S+)")
 
 
 class Asked(typing.NamedTuple):
@@ -23,6 +21,14 @@ class Asked(typing.NamedTuple):
 
     def line(self) -> str:
         return f"do {self.uid} {self.groups} {' ; '.join(self.operations)}"
+
+
+class Denied(typing.NamedTuple):
+    """An operation that was denied: its place, counted from 1, the path that it came to, and what decided."""
+
+    place: int
+    path: str
+    by: str
 
 
 def table(lines: list[str]) -> list[str]:
@@ -101,18 +107,18 @@ def case_of(text: str, owner: str, group: str, caller: Asked) -> str:
     return "is neither the owner, nor named, nor in a group of the list, so the entry of all others counts, other::"
 
 
-def told(script: str, before: list[Asked], caller: Asked, place: int, path: str, decider: str) -> typing.Iterator[str]:
-    """The sentences about the list, the owner, and the caller of whom the operation at this place was denied."""
-    jobs = before + ([caller._replace(operations=caller.operations[: place - 1])] if place > 1 else [])
-    found = list_then(script, jobs, path)
+def told(script: str, before: list[Asked], caller: Asked, denied: Denied) -> typing.Iterator[str]:
+    """The sentences about the list, the owner, and the caller of whom an operation was denied."""
+    done = caller.operations[: denied.place - 1]
+    found = list_then(script, before + ([caller._replace(operations=done)] if done else []), denied.path)
     if not found:
         return
     owner, group, text = found
     yield f"Its list was then {text}, its owner user {owner}, and its group {group}."
-    if decider == "owner":
+    if denied.by == "owner":
         yield f"User {caller.uid} is not the owner, and nobody else may do that."
     else:
         yield (
             f"User {caller.uid} of groups {caller.groups} {case_of(text, owner, group, caller)}. What decided is"
-            f" {decider}."
+            f" {denied.by}."
         )
