@@ -130,7 +130,7 @@ def alone(path: str, teller: Teller) -> typing.Iterator[bool]:
 
 def start(
     words: list[str], folder: str | None, log: typing.IO[bytes] | int, **how: typing.Any
-) -> subprocess.Popen[bytes]:
+) -> subprocess.Popen[typing.Any]:
     """Starts a command in a group of its own, so that it can be stopped whole."""
     how = {"stdin": subprocess.DEVNULL, "stdout": log, "stderr": subprocess.STDOUT, "start_new_session": True, **how}
     return subprocess.Popen(words, cwd=folder, **how)

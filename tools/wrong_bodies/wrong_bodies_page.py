@@ -6,6 +6,8 @@
 The first line of an edit says what it makes wrong (`why: ..`), the second which function refuses it and by which
 clause (`refused by: ..`). ./suites --test runs --check.
 """
+import collections
+import itertools
 import os
 import typing
 
@@ -77,34 +79,34 @@ a row shows: of most of these no command tells what they are about.
 """
 
 
+def edits() -> typing.Iterator[tuple[str, str, str]]:
+    """Each edit: its crate, whether it stands in the gate or beside it, and its path."""
+    for crate in crates.listed():
+        for folder, place in PLACES:
+            yield from ((crate, place, path) for path in wrong_bodies.edits(crate, folder))
+
+
 def words_of(text: str) -> dict[str, str]:
     """What the lines `why: ..` and `refused by: ..` of an edit say."""
     parted = (line.partition(": ") for line in text.split("\n"))
     return {word: rest for word, _, rest in parted if word in changes.TOLD}
 
 
-def rows(crate: str, faults: list[str]) -> typing.Iterator[str]:
-    """The lines of the table of a crate. What is wrong with its edits is added to the faults."""
-    for folder, place in PLACES:
-        for edit in wrong_bodies.edits(crate, folder):
-            name = f"{crate}/{wrong_bodies.name_of(edit)}"
-            words = words_of(text_of(edit))
-            faults += [f"{name}: it has no line '{word}: ..'" for word in changes.TOLD if not words.get(word)]
-            if any("|" in text for text in words.values()):
-                faults.append(f"{name}: a word has a |, which a table cannot show")
-            cells = [f"`{wrong_bodies.name_of(edit)}`", place, *(words.get(word, "") for word in changes.TOLD)]
-            yield f"| {' | '.join(cells)} |"
+def row(crate: str, place: str, path: str, faults: list[str]) -> str:
+    """The line of an edit in the table of its crate. What is wrong with it is added to the faults."""
+    name, words = wrong_bodies.name_of(path), words_of(text_of(path))
+    faults += [f"{crate}/{name}: it has no line '{word}: ..'" for word in changes.TOLD if not words.get(word)]
+    if any("|" in text for text in words.values()):
+        faults.append(f"{crate}/{name}: a word has a |, which a table cannot show")
+    return f"| {' | '.join([f'`{name}`', place, *(words.get(word, '') for word in changes.TOLD)])} |"
 
 
 def by_name(faults: list[str]) -> str:
     """The table of the bodies that are asked for first. One without an edit is added to the faults."""
     places: dict[str, list[str]] = {name: [] for name in ASKED}
-    for crate in crates.listed():
-        for folder, place in PLACES:
-            for edit in wrong_bodies.edits(crate, folder):
-                name = wrong_bodies.name_of(edit)
-                if name in places:
-                    places[name].append(f"`{crate}` ({place})")
+    for crate, place, path in edits():
+        if wrong_bodies.name_of(path) in places:
+            places[wrong_bodies.name_of(path)].append(f"`{crate}` ({place})")
     faults += [f"{name}: there is no such edit" for name, found in places.items() if not found]
     lines = [f"| `{name}` | {', '.join(found)} |" for name, found in places.items()]
     lines += [f"| `{name}` | {test} |" for name, test in BY_TESTS.items()]
@@ -113,12 +115,7 @@ def by_name(faults: list[str]) -> str:
 
 def would_do(faults: list[str]) -> str:
     """The table of what wrong bodies would do. One without an edit is added to the faults."""
-    known = {
-        f"{crate}/{wrong_bodies.name_of(edit)}"
-        for crate in crates.listed()
-        for folder, _ in PLACES
-        for edit in wrong_bodies.edits(crate, folder)
-    }
+    known = {f"{crate}/{wrong_bodies.name_of(path)}" for crate, _, path in edits()}
     told = []
     for piece in text_of(SHOWN).strip().split("\n\n"):
         name, _, rest = piece.partition("\n")
@@ -142,19 +139,12 @@ def would_do(faults: list[str]) -> str:
 
 def whole_page() -> tuple[str, list[str]]:
     """The page, and what is wrong with the edits."""
-    parts, counts = [HEAD], {place: 0 for _, place in PLACES}
-    faults: list[str] = []
-    for crate in crates.listed():
-        lines = list(rows(crate, faults))
-        for place in counts:
-            counts[place] += sum(line.split(" | ")[1] == place for line in lines)
-        if lines:
-            head = [f"## `{crate}`\n", "| Wrong body | Tried | What it makes wrong | Refused by |", "|---|---|---|---|"]
-            parts.append("\n".join([*head, *lines, ""]))
-    parts.append(by_name(faults))
-    parts.append(would_do(faults))
-    parts.insert(1, f"There are {counts['gate']} in the gate and {counts['beside']} beside it.\n")
-    return "\n".join(parts), faults
+    counts, faults = collections.Counter(place for _, place, _ in edits()), list[str]()
+    parts = [HEAD, f"There are {counts['gate']} in the gate and {counts['beside']} beside it.\n"]
+    for crate, those in itertools.groupby(edits(), lambda edit: edit[0]):
+        head = [f"## `{crate}`\n", "| Wrong body | Tried | What it makes wrong | Refused by |", "|---|---|---|---|"]
+        parts.append("\n".join([*head, *(row(*edit, faults) for edit in those), ""]))
+    return "\n".join([*parts, by_name(faults), would_do(faults)]), faults
 
 
 def main() -> int:
