@@ -30,10 +30,9 @@ import sys
 import tempfile
 import typing
 import webbrowser
-from collections.abc import Iterator
 
 from common import TOOLS, console, quoted, text_of
-from explain import explain
+from explain import explain, faults
 from trace import states, trace
 from trace.events import Player
 
@@ -98,21 +97,16 @@ class Besides(typing.NamedTuple):
     asks: bool = False
 
 
-def texts(player: Player) -> Iterator[str]:
-    """The events of a script as texts; ends the tool where the script has a fault."""
-    return (line.decode("latin1").rstrip("\n") for line in player.lines())
-
-
 def events_of(script: bytes) -> list[str]:
-    """All events of a script as texts."""
+    """All events of a script as texts; ends the tool where the script has a fault."""
     with Player(script) as player:
-        return [*texts(player)]
+        return [line.decode("latin1").rstrip("\n") for line in player.lines()]
 
 
 def shown_of(script: bytes, first: int, last: int) -> Shown:
     """The events of lines of a script: all, where the first is 0."""
     with Player(script) as player:
-        lines = texts(player)
+        lines = (line.decode("latin1").rstrip("\n") for line in player.lines())
         opening = next(lines)
         before, kept = states.Part(json.loads(opening)), [opening]
         for line in lines:
@@ -141,10 +135,8 @@ def digest(text: str) -> str:
 
 def page_of(script: bytes, shown: Shown, besides: Besides | None = None) -> str:
     """The page of a run, or of a part of one, and what it has besides."""
-    lines = script.decode("utf-8", "replace").split("\n")
-    if lines[-1] == "":
-        lines.pop()
-    data = {"script": [line.removesuffix("\r") for line in lines], **dataclasses.asdict(shown), "meanings": meanings()}
+    lines = faults.lines_of(script.decode("utf-8", "replace"))
+    data = {"script": lines, **dataclasses.asdict(shown), "meanings": meanings()}
     parts = {name: text_of(PARTS, file) for name, file in FILES.items()}
     styles = [digest(parts["STYLE"])]
     scripts = [digest(text) for name, text in parts.items() if name != "STYLE"]
@@ -158,13 +150,13 @@ def page_of(script: bytes, shown: Shown, besides: Besides | None = None) -> str:
     return re.sub(r"@([A-Z]+)@", lambda found: parts[found[1]], text_of(PARTS, "page.html"))
 
 
-def opened(page: str) -> None:
-    """Opens a page in a browser, in a file that stays."""
+def opened(page: str, says: str = "") -> bool:
+    """Opens a page in a browser, in a file of this user alone that stays; whether one is found."""
     with tempfile.NamedTemporaryFile("w", encoding="utf-8", prefix="run-", suffix=".html", delete=False) as file:
         file.write(page)
-    console.Teller().say(f"the page is {file.name}")
-    if not webbrowser.open(f"file://{file.name}"):
-        raise console.Stop("no browser is found here: open the file with one")
+    if says:
+        console.Teller().say(says.format(file.name))
+    return webbrowser.open(f"file://{file.name}")
 
 
 def main() -> int:
@@ -195,8 +187,8 @@ def main() -> int:
     if not 0 <= given.first <= given.last:
         raise console.Bad("--from and --to are lines of the script, the first before the last")
     page = page_of(script, shown_of(script, given.first, given.last))
-    if given.open:
-        opened(page)
-    else:
+    if not given.open:
         sys.stdout.buffer.write(page.encode())
+    elif not opened(page, "the page is {}"):
+        raise console.Stop("no browser is found here: open the file with one")
     return 0
