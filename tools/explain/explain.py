@@ -1,20 +1,7 @@
 """./suites explain [--of COMMAND] LINE [FILE]
 
-Prints what docs/FAULTS.md says of a code, or of a line as the program, `votes` or `may` printed it; what a word
-means; and what a line of a script says, word by word. Where the script or the list is named that a line was printed
-of: of a fault the very line or item, and what is wrong with it; of how a job ended what happened, for which the
-script is played once more.
-
-    ./suites explain S1
-    ./suites explain 'fault line 3: S2' SCRIPT
-    ./suites explain 'fault A9 item 2' LIST
-    ./suites explain '1.2 9 denied op 1 suite 1 wants r-- by other::' SCRIPT
-    ./suites explain 'begin 0 1000 100 0 file /a 644 ; write /a 6869'
-    ./suites explain prefix
-    ./suites explain 'status 6'
-
-Which command a script is of is told by its lines, or by --of play, --of serve or --of table. A script of - is
-standard input.
+What docs/FAULTS.md says of a code or of a printed line, what a word means, and what stands behind a line in its script;
+help/explain.txt tells all of it.
 """
 import argparse
 import functools
@@ -303,7 +290,7 @@ def answer(words: list[str]) -> str:
     given = asked(words)
     text = " ".join(given.text)
     if given.help or not text:
-        return __doc__.strip()
+        return text_of("help", "explain.txt").strip()
     fault = FAULT.match(text)
     if fault and fault[3]:
         return of_file(fault, fault[3], given.of)

@@ -5,7 +5,7 @@ The sentences about `votes` are those of its help where that has them, and what 
 """
 import re
 
-from common import forms
+from common import forms, text_of
 from common.quoted import filled
 
 PERMS = "[r-][w-][x-]"
@@ -170,8 +170,7 @@ def of_error(text: str) -> str | None:
     """What is told of an error of a mount, by its name: what its help says; nothing of any other text."""
     if not ERROR.match(text):
         return None
-    from mount import words  # its help tells of errors
-    lines = (words.__doc__ or "").partition("What calls are answered:\n")[2].split("\n")
+    lines = text_of("help", "mount.txt").partition("What calls are answered:\n")[2].split("\n")
     told, is_told = list[str](), False
     for line in lines:
         parts = re.findall(r"(E[A-Z]{2,}(?:, E[A-Z]{2,})*) +(.*?)(?= {2,}E[A-Z]|$)", line)
@@ -191,8 +190,7 @@ def of_votes(text: str) -> str | None:
     """What is told of a line of `votes`; nothing of any other."""
     found = IN_HELP.match(text)
     if found:
-        from votes import votes  # its help tells of the line
-        told = re.search(rf"^    {found[1]} +(.*(?:\n {{18}}.*)*)", votes.__doc__ or "", re.M)
+        told = re.search(rf"^    {found[1]} +(.*(?:\n {{18}}.*)*)", text_of("help", "votes.txt"), re.M)
         return filled(f"{found[1]} (a line of `./suites votes`): {' '.join(told[1].split())}.") if told else None
     of_form = of_forms(text, "votes")
     if of_form:

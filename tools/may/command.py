@@ -1,50 +1,4 @@
-"""./suites may [-v] [--groups GID[,GROUP..]] USER WANTED PATH..
-       ./suites may [-v] [--groups GID[,GROUP..]] USER create|delete PATH..
-       ./suites may [--groups GID[,GROUP..]] USER WANTED --under TREE [--denied] [-0]
-       ./suites may --who WANTED|create|delete PATH..
-       ./suites may [-v] --who WANTED --under TREE
-       ./suites may --without ENTRY | --with ENTRY  [--no-mask] PATH.. | --under TREE
-       ./suites may --lint TREE
-
-Tells whether a user may read, write or execute files of this machine, and if not, which entry of which list decides.
-USER is a name or a number, WANTED letters of r, w and x. Each folder on the way wants x (search) too. The answers are
-those of the proved access check of acl(5): a line a folder, up to the first that denies, and last a sentence.
-
-    create, delete  whether the user may make the name, or take it away: its folder decides
-    --under TREE    each path of a tree that the user may, by which entry; links in it are told and not followed
-    --denied        those that the user may not
-    -0              the paths alone, each ended by a byte 0, as `xargs -0` takes them
-    --who           everybody with an account here who may, by which entry, and who is stopped where; with --under
-                    how many paths of a tree each may, and some of them (-v: all)
-    --without ENTRY who gains and who loses if the entry (user:lisa, g:200, m) went; nothing is changed. With --under
-                    the same of each list in a tree that has it
-    --with ENTRY    the same if it (user:lisa:rw, g:200:r, m::rx, o::) came, or took the place of the one there; with
-                    d: before it, of a folder's default list: what new files there will have
-    --no-mask       the mask stays; else it is computed as setfacl does
-    --lint TREE     what does not do what it says, with the command that would mend it, where that harms nobody
-    -v              shows each list, with what its mask leaves of an entry
-    --groups LIST   the user has these groups, its own first, and not those that the system gives
-    --              what stands behind it is no option
-
-Exit status: 0 all is granted, 1 something is denied or to be mended, 2 a bad command, 3 a path or a list cannot be read
-(run it as root) or is not judged here, 4 out of memory, 6 a write failed. --under, --who, --without and --with end with
-0 where they could tell all.
-
-What Linux does otherwise than lists say is told, and the status is that of Linux. Looked at beside lists:
-  - a list with an empty mask, which Linux looks at for the owner alone; and root, whom Linux lets pass
-  - mounts: ro, noexec, nodev, nosymfollow; immutable and append-only files; x of what is no file or folder
-  - snapshots of btrfs that are read-only; sticky folders, of `delete`; interpreters of scripts, and theirs
-  - links that end a path and lie in a sticky folder (fs.protected_symlinks)
-Told as not judged: idmapped mounts, FUSE, NFS, SMB and other file systems whose servers decide, what is of processes or
-settings in /proc, all of /proc with hidepid, /sys and its kind, which names are made in /proc, /dev/pts and their kind,
-subvolumes of btrfs that are taken away, lists of more than 128 entries or with a user twice, paths that grow beyond
-4,095 bytes through links.
-Not looked at: capabilities of others than root, root without capabilities, security modules, user namespaces, mounts of
-other namespaces, quotas, locks, swap files, ELF interpreters, binfmt_misc, rules of devices, and what is opened to be
-made where it is there already (fs.protected_regular, fs.protected_fifos).
-A path that does not begin with / is taken from the current folder, whose own path is looked at too. Names with
-line ends, quotes, backslashes or bytes that are no text are shown as `ls -Q` does.
-"""
+"""./suites may: who may what on this machine; help/may.txt tells all of it."""
 import argparse
 import errno
 import io
@@ -228,8 +182,7 @@ def of_lint(given: argparse.Namespace) -> int:
 def answered(words: list[str]) -> int:
     place = words.index("--") if "--" in words else len(words)
     if {"-h", "--help"} & set(words[:place]):
-        print(__doc__.strip())
-        return GRANTED
+        return console.print_help("may")
     given = read(words[:place], words[place + 1 :])
     if given.form == "user":
         return of_user(given) if given.under is None else of_tree(given)

@@ -1,23 +1,5 @@
-"""./suites show [--open] [--from LINE] [--to LINE] < SCRIPT > run.html
-./suites show --live [--open] [--journal FILE] [--script FILE] [--servers N] [--agents N] [--votes V] [--root U:G:MODE]
-
-Plays a script of events as `suites play` does, and writes a page on which the run can be watched: the requests and
-replies as a picture, what each server and agent has at the moment that is looked at, and the script. The page stands
-alone: it needs a browser, and neither a network nor these tools.
-
-    --open        writes the page into a new file, and opens that in a browser
-    --from LINE   shows the run from this line of the script on
-    --to LINE     shows it to the end of this line. A page shows 60,000 events at most; of a longer run show a part
-    --live        serves the page of a session, and prints its address: what comes next is clicked on the page, as a
-                  step of an agent, a crash, a new job, and is a line of the session. The address is one of this machine
-                  alone and has a random token. The session is as `./suites mount --help` has it: of 3 servers and 2
-                  agents where nothing is told, kept in a journal, begun by a script. The script so far can be saved
-                  there. Ctrl-C ends it
-
-On the page: the arrow keys, Home and End go through the run, PageUp and PageDown by its rows, `b` and `n` by its jobs,
-and space plays it. `p` is for who presents: large type, and nothing of what is still to come. A sentence says what
-happens at the moment. A click on an arrow goes there, one on a folded phase opens it, and one on a path shows the file
-through time. What has dots below it is explained to whoever points at it.
+"""./suites show [OPTIONS] < SCRIPT > run.html: a run as a page that stands alone, or by --live the page of a session
+(live.py); help/show.txt tells all of it.
 """
 import argparse
 import base64
@@ -175,8 +157,7 @@ def main() -> int:
         words.options(read, "--agents")
     given = read.parse_args()
     if given.help:
-        print(__doc__.strip())
-        return 0
+        return console.print_help("show")
     if is_live:
         if given.file is not None or given.first or given.last != sys.maxsize:
             raise console.Bad("a page of a session has neither --from nor --to; a script is told by --script FILE")

@@ -1,22 +1,4 @@
-"""./suites draw [--agent A] [--suite S] [--from N] [--to M] [--fold] [--all] [--anyway] < SCRIPT > run.svg
-
-Plays a script of events as `suites play` does, and draws what happens, from above to below: a line for each agent and
-each server that does something, an arrow for each request and a dashed one for its reply, grey where a server is down,
-a mark where a transaction is decided, and how a job ended beside its last arrow. The number of a job and of its
-transaction (t) stand where it begins, and what all signs mean at the foot. A label that has no room is cut, and is
-there whole for whoever points at it.
-
-    --agent A   only what agent A does, and what becomes of servers
-    --suite S   only what is about a file or folder, by its path or its number
-    --from N    only from the Nth request on, of those that would be drawn else
-    --to M      only up to the Mth request
-    --fold      requests of one phase that follow on each other in one line, with a dot at each server (red where it
-                said no)
-    --all       agents and servers that do nothing, too
-    --anyway    more than 2,000 requests, too
-
-Where it takes longer than two seconds it says on a terminal how far it is.
-"""
+"""./suites draw [OPTIONS] < SCRIPT > run.svg: a run as a picture; help/draw.txt tells all of it."""
 import argparse
 import html
 import itertools
@@ -385,7 +367,7 @@ def asked(words: typing.Sequence[str]) -> argparse.Namespace:
         "--to": {"type": positive, "dest": "last", "default": sys.maxsize},
     }
     more |= {word: {"action": "store_true"} for word in ("--fold", "--all", "--anyway")}
-    return trace.asked(list(words), __doc__, more)
+    return trace.asked(list(words), "draw", more)
 
 
 def main() -> int:

@@ -1,40 +1,4 @@
-"""./suites votes VOTES [--servers N] [--up P]
-./suites votes --script FILE [--up P]
-./suites votes --of N [--lose-read A] [--lose-write B] [--up P]
-
-Tells which servers a file or folder with these votes may lose, and how often it is blocked. VOTES is written as in
-scripts: `1,1,1/2/2` is a vote each of servers 0, 1 and 2, and two votes that a read and a write collect. With --script
-it tells this of every file and folder that a script of `play` leaves, dropped or not, with the votes that are in effect
-at its end. With --of it tells which votes N servers may have, so that reads go on without any A servers, and writes
-without any B.
-
-    --servers N      how many servers there are; else as many as VOTES has fields
-    --up P           the chance that a server is up, each by itself; else 0.99
-    --lose-read A    so many servers, whichever they are, may be lost for reads; else 0
-    --lose-write B   the same for writes; else 0
-
-Of a read and of a write:
-
-    may be lost   so many servers, whichever they are, may be down: the others have the votes
-    stopped by    the least sets of servers whose loss leaves too few votes (without one of a set the votes are up
-                  again), the smallest first, up to twenty of them
-    blocked       the chance that too few votes are up, exact and told in two digits. It is of votes alone: neither
-                  locks nor homes nor votes that are not found are in it
-    not found     with --script, of votes that were moved: the least sets of servers with which down the votes are up,
-                  and an agent without a hint, which begins at the opening votes, does not find them (U1 by older
-                  votes). Of more than twelve servers only sets of up to three are tried
-    U5 at first   of the cases in which the votes are up, those in which the home of the transaction is down, so that it
-                  ends U5: over jobs in a row each of the N servers is the home equally often, so this is the mean
-                  share of servers that are down. Begun again it has the next server as its home
-
-All of it is of one file or folder alone. A path leads through the root folder and on, and of each folder on the way
-the votes of a read have to be up too. To make or drop a name is a write of its folder; to set votes collects those of
-a write twice, of the old votes and of the new ones.
-
-Of --of there is a line for each way to share votes, the best first: no other one in the table is as good in all.
-There a read and a write are requests, as `play` counts them without a cache, of a file in the root folder that has
-the same votes, where all servers are up.
-"""
+"""./suites votes VOTES, --script FILE or --of N: what votes bear; help/votes.txt tells all of it."""
 import argparse
 import collections
 import decimal
@@ -45,7 +9,7 @@ import re
 import sys
 import typing
 
-from common import console, quoted
+from common import console, quoted, text_of
 from explain import explain, reasons
 from trace.events import events_of
 from trace.paths import paths
@@ -348,9 +312,8 @@ def told_of_shapes(servers: int, lose: tuple[int, int], up: str) -> list[str]:
 
 def asked(words: list[str]) -> argparse.Namespace:
     """The words of the command line. A word of votes may begin with a hyphen, as that of no option does."""
-    read = argparse.ArgumentParser(
-        prog="./suites votes", add_help=False, usage=__doc__.split("\n\n")[0].replace("\n", "\n       ")
-    )
+    usage = text_of("help", "votes.txt").partition("\n\n")[0].replace("\n", "\n       ")
+    read = argparse.ArgumentParser(prog="./suites votes", add_help=False, usage=usage)
     read.add_argument("votes", nargs="?")
     read.add_argument("--script")
     read.add_argument("--servers", type=int)
@@ -362,8 +325,7 @@ def asked(words: list[str]) -> argparse.Namespace:
     hyphened = [word for word in words if re.match(r"-(?!-).*[,/]", word)]
     given = read.parse_args([word for word in words if word not in hyphened] + (["--", *hyphened] if hyphened else []))
     if given.help:
-        print(__doc__.strip())
-        sys.exit(0)
+        sys.exit(console.print_help("votes"))
     ways = [given.votes is not None, given.script is not None, given.of is not None]
     if (
         sum(ways) != 1
