@@ -17,30 +17,7 @@ from wrong_bodies import changes, wrong_bodies
 PAGE = os.path.join("docs", "WRONG-BODIES.md")
 SHOWN = os.path.join(TOP, "docs", "wrong-bodies-shown.txt")
 PLACES = ((wrong_bodies.GATE, "gate"), (wrong_bodies.BESIDE, "beside"))
-HEAD = """# Wrong bodies
-
-Each line is an edit that makes a function, a definition or a condition wrong. The prover must refuse it: if it does
-not, a contract is too weak. `python3 tools wrong_bodies_page` writes this page from the edits, so change the edits and
-not the page.
-
-An edit marked `gate` stands in `crates/NAME/must-fail`, and the gate tries it whenever its crate changes. The gate
-has the edits that break a rule of the service, those that were once let through, and those that a reader would try
-first. An edit marked `beside` stands in `crates/NAME/wrong`. It was refused when it was last tried, or its last
-column says that it was not tried yet; `python3 tools wrong_bodies NAME` tries it again. Try those of a crate before a
-change of its public contracts or its definitions lands.
-
-The last column names the function, and in brackets the clause or the definition that the edit breaks. A function with
-one clause is named alone.
-
-The gate has none of eight crates of laws, of the commands but `may`, of `event_json`, `suite_cli`, `suite_args`,
-`suite_script` and `suite_play` (the rows of `crates/rows` show what the last four print), and none of the crates that
-the others only build on (`suite_content`, `byte_streams`, `script_text`, `acl_text`, `file_exec`): the proof of a
-crate above fails where it needs a clause that was weakened. Nobody looked whether each of their clauses is needed
-above. A crate's first edit costs its whole proof once more, and the gate is ended at 180 minutes: so it has none of
-`file_ops`, `run_explore`, `suite_session`, `suite_serve`, `history_judge` and `suite_history`, which are dear, and of
-which no edit is asked for by name below.
-"""
-
+MARKS = "<!-- edits: written by tools/wrong_bodies/wrong_bodies_page.py -->", "<!-- end of edits -->"
 # The bodies that a reader of the service's rules asks for first, by their plain names, and of those that no clause can
 # refuse the test that does.
 ASKED = """
@@ -140,11 +117,12 @@ def would_do(faults: list[str]) -> str:
 def whole_page() -> tuple[str, list[str]]:
     """The page, and what is wrong with the edits."""
     counts, faults = collections.Counter(place for _, place, _ in edits()), list[str]()
-    parts = [HEAD, f"There are {counts['gate']} in the gate and {counts['beside']} beside it.\n"]
+    parts = [f"There are {counts['gate']} in the gate and {counts['beside']} beside it.\n"]
     for crate, those in itertools.groupby(edits(), lambda edit: edit[0]):
         head = [f"## `{crate}`\n", "| Wrong body | Tried | What it makes wrong | Refused by |", "|---|---|---|---|"]
         parts.append("\n".join([*head, *(row(*edit, faults) for edit in those), ""]))
-    return "\n".join([*parts, by_name(faults), would_do(faults)]), faults
+    told = "\n".join([*parts, by_name(faults), would_do(faults)])
+    return page.between(text_of(PAGE), MARKS, told.rstrip("\n"))[0], faults
 
 
 def main() -> int:
