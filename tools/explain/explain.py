@@ -26,20 +26,15 @@ FAULT = re.compile(r"fault (?:line (\d+): )?([SAVNG]\d+(?: A\d+)?(?: item \d+)?)
 # The parts of the page that tell of a line of such a form: of `explore`, of a session besides what its lines print, of
 # a trace, and of a list.
 OF_WAYS, OF_TRACE = ("all", "way"), "trace"
-KINDS = (
-    (
-        "all",
-        r"(?:(?:not )?all|sampled):? \d+ ways, \d+ (?:worlds|runs)$|sampled \d+ orders(?:, \d+ dropped)?: \d+ ways$",
-    ),
-    (
-        "way",
-        r"way \d+(?: in \d+ of \d+ ends|: \d+ (?:worlds at the end|runs), \d+ of them so)?$"
-        r"|\d+\.\d+ -$|decided(?: \d+\.\d+)*$",
-    ),
-    ("session", r"= (?:restored \d+ lines|\d+)$|(?:row|content|copies|locks|room) |(?:copies|room)$"),
-    (OF_TRACE, r"> |= server|nothing happens|\d+ -> s\d+|t \d+ suite|\S*suite \d+ \w+ prefix"),
-    ("entry", r"(?:default:)?(?:user|group|mask|other):\d*:[r-][w-][x-]"),
-)
+KINDS = {
+    "all": r"(?:(?:not )?all|sampled):? \d+ ways, \d+ (?:worlds|runs)$"
+    r"|sampled \d+ orders(?:, \d+ dropped)?: \d+ ways$",
+    "way": r"way \d+(?: in \d+ of \d+ ends|: \d+ (?:worlds at the end|runs), \d+ of them so)?$"
+    r"|\d+\.\d+ -$|decided(?: \d+\.\d+)*$",
+    "session": r"= (?:restored \d+ lines|\d+)$|(?:row|content|copies|locks|room) |(?:copies|room)$",
+    OF_TRACE: r"> |= server|nothing happens|\d+ -> s\d+|t \d+ suite|\S*suite \d+ \w+ prefix",
+    "entry": r"(?:default:)?(?:user|group|mask|other):\d*:[r-][w-][x-]",
+}
 VOTES = re.compile(r"(?:\d+,|-,)*\d+/\d+/\d+$")
 MARKED = re.compile(r"= (\d+)$")
 # What begins the line of an outcome: an agent and its job, or a job, and how many requests it took; or a transaction.
@@ -85,7 +80,7 @@ def parts_by_word() -> dict[str, str]:
 
 def kind_of(text: str) -> str:
     """The part of the page about a line of its form; nothing where no form is its."""
-    return next((kind for kind, form in KINDS if re.match(form, text)), "")
+    return next((kind for kind, form in KINDS.items() if re.match(form, text)), "")
 
 
 def codes_in(text: str) -> list[str]:

@@ -3,9 +3,11 @@
 Tests, wrong bodies and documents stand in other folders or crates, and are no part of it. A file is read again only
 where its size or its times have changed since its sum was kept.
 """
+import contextlib
 import hashlib
 import json
 import os
+import pathlib
 import re
 import shutil
 import subprocess
@@ -68,11 +70,9 @@ def files_of(folder: str) -> typing.Iterator[str]:
 
 def read_json(path: str) -> dict[str, typing.Any]:
     """What was kept in this file; nothing where it is not there, or was broken off."""
-    try:
-        with open(path, encoding="utf-8") as file:
-            return json.load(file)
-    except (OSError, ValueError):
-        return {}
+    with contextlib.suppress(OSError, ValueError):
+        return json.loads(pathlib.Path(path).read_text(encoding="utf-8"))
+    return {}
 
 
 def write_whole(path: str, text: str, written: int | None = None) -> None:
@@ -109,11 +109,9 @@ def time_of_files() -> int | None:
 
 def sum_of(path: str) -> str | None:
     """The sum of a file's bytes; nothing where it is not there."""
-    try:
-        with open(path, "rb") as file:
-            return hashlib.sha256(file.read()).hexdigest()
-    except OSError:
-        return None
+    with contextlib.suppress(OSError):
+        return hashlib.sha256(pathlib.Path(path).read_bytes()).hexdigest()
+    return None
 
 
 class Kit:

@@ -11,6 +11,7 @@ gate begins with it.
 """
 import glob
 import os
+import pathlib
 import re
 import typing
 
@@ -41,8 +42,7 @@ UNNAMED = {"Lib.antt", "code.antt"}
 
 
 def content(path: str) -> str:
-    with open(path, encoding="utf-8", errors="replace") as file:
-        return file.read()
+    return pathlib.Path(path).read_text(encoding="utf-8", errors="replace")
 
 
 def files() -> typing.Iterator[str]:

@@ -12,6 +12,7 @@ the status is 1. The rows themselves are played by the program of crates/rows, c
 show of them, by tests/typed.py, and the picture of a run is drawn by tests/drawn.py.
 """
 import os
+import pathlib
 import re
 import sys
 import typing
@@ -37,8 +38,7 @@ RUN = re.compile(rb"^# +\./suites (explore[^<]*?) < ", re.M)
 
 
 def content(name: str) -> bytes:
-    with open(os.path.join(TOP, name), "rb") as file:
-        return file.read()
+    return pathlib.Path(TOP, name).read_bytes()
 
 
 def rows() -> list[tuple[str, bytes, bytes]]:

@@ -14,6 +14,7 @@ was not tried, and the status is then 1. --check proves nothing and takes no tim
 import argparse
 import contextlib
 import os
+import pathlib
 import re
 import shutil
 import signal
@@ -87,8 +88,7 @@ def copy(room: str, taken: dict[str, list[str]]) -> None:
             # of one that does not apply rt tells so
             with contextlib.suppress(changes.Bad):
                 text = changes.for_kit(text, crate)
-            with open(os.path.join(crate, GATE, os.path.basename(path)), "w", encoding="utf-8") as target:
-                target.write(text)
+            pathlib.Path(crate, GATE, os.path.basename(path)).write_text(text, encoding="utf-8")
 
 
 @contextlib.contextmanager
