@@ -51,12 +51,6 @@ def owner_of(path: str, root: list[str], jobs: list[Asked], answers: list[str]) 
     return next(reversed(makers(path, root, answered)), None)
 
 
-def above(path: str) -> list[str]:
-    """The folders on the way to a path, the root folder first."""
-    parts = [part for part in path.split("/") if part]
-    return ["/" + "/".join(parts[:count]) for count in range(len(parts))]
-
-
 def header_of(script: str) -> list[str]:
     """The lines of a script of which a script of `table` has the same: its root folder and its names."""
     said = [line.split() for line in faults.lines_of(script) if line.split() and not line.startswith("#")]
@@ -71,7 +65,9 @@ def answers(script: str, jobs: list[Asked]) -> list[str]:
 
 def list_then(script: str, jobs: list[Asked], path: str) -> tuple[str, str, str] | None:
     """The owner, the group and the list of a path after these transactions; owners open the folders on the way."""
-    header, folders = header_of(script), above(path)
+    header, parts = header_of(script), [part for part in path.split("/") if part]
+    # those on the way to it, the root folder first
+    folders = ["/" + "/".join(parts[:count]) for count in range(len(parts))]
     root = header[0].split()
     lines = [f"do {' '.join(one)} setacl {folder} {OPEN}" for folder in folders for one in makers(folder, root, jobs)]
     asked = makers(path, root, jobs)
@@ -84,21 +80,16 @@ def list_then(script: str, jobs: list[Asked], path: str) -> tuple[str, str, str]
     return (*owner, found[1]) if found else None
 
 
-def entries(text: str) -> list[tuple[str, str, str]]:
-    """The entries of a list as `play` writes it: the letter of the kind, whom it names, and the permissions."""
-    found = [item.split(":") for item in text.split(",") if not item.startswith(("d:", "default:"))]
-    return [(fields[0][0], fields[1], fields[2]) for fields in found]
-
-
 def case_of(text: str, owner: str, group: str, caller: Asked) -> str:
     """Which entries of a list a caller is judged by, by acl(5)."""
-    listed = entries(text)
+    # of each entry, as `play` writes them, the letter of its kind and whom it names
+    listed = [(item[0], item.split(":")[1]) for item in text.split(",") if not item.startswith(("d:", "default:"))]
     if caller.uid == owner:
         return "is the owner, so the owner's entry alone counts, user::"
-    if any(kind == "u" and who == caller.uid for kind, who, _ in listed):
+    if ("u", caller.uid) in listed:
         return f"is named by an entry, user:{caller.uid}, which counts with the mask"
     groups = caller.groups.split(",")
-    named = [who or group for kind, who, _ in listed if kind == "g" and (who or group) in groups]
+    named = [who or group for kind, who in listed if kind == "g" and (who or group) in groups]
     if named:
         return (
             f"is neither the owner nor named, but in group {' and '.join(named)}, whose entries count with the mask, if"

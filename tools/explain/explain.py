@@ -103,30 +103,27 @@ def codes_in(text: str) -> list[str]:
     return found + (["transaction"] if NUMBERED.search(rest) else [])
 
 
-def counted(number: str) -> str:
-    return f"{number} request{'s' if int(number) != 1 else ''}"
-
-
 def worked_out(text: str) -> list[str]:
     """What the numbers of a line say, one by one."""
     front = FRONT.match(text)
     told = []
+    count = front and (front[3] or front[5])
+    took = f"; it took {count} request{'s' if int(count) != 1 else ''}" if count else ""
     if front and front[1]:
-        took = f"; it took {counted(front[3])}" if front[3] else ""
         told.append(f"Job {front[2]} of agent {front[1]}, both counted from 0{took}.")
     elif front and front[4]:
-        told.append(f"Job {front[4]} of the script, counted from 0; it took {counted(front[5])}.")
+        told.append(f"Job {front[4]} of the script, counted from 0{took}.")
     elif front:
         told.append(f"Transaction {front[6]} of the script, counted from 0.")
     for made, suite, t in NUMBERED.findall(text):
         if made:
             t, place = numbers.maker_of(int(suite))
-            is_made = f"made by operation {place + 1} of transaction {t}"
-            told.append(f"{suite} = {numbers.OPERATIONS} * {t} + {place + 1}: {is_made}.")
+            by = f"made by operation {place + 1} of transaction {t}"
+            told.append(f"{suite} = {numbers.OPERATIONS} * {t} + {place + 1}: {by}.")
         if not (front and front[6]):
             agent, job = numbers.job_of(int(t))
-            is_of = f"in play and serve transaction {t} is job {job} of agent {agent}"
-            told.append(f"{t} = {numbers.AGENTS} * {job} + {agent}: {is_of}.")
+            of = f"in play and serve transaction {t} is job {job} of agent {agent}"
+            told.append(f"{t} = {numbers.AGENTS} * {job} + {agent}: {of}.")
     return list(dict.fromkeys(told))
 
 
@@ -149,11 +146,8 @@ def shown(line: str) -> str:
 def about(lines: list[str], text: str) -> list[str]:
     """The lines of a part; of those that tell of a word each only those whose word is in the text, if any is."""
     words = set(re.findall(r"[a-z=]+", text))
-    kept = [
-        line
-        for line in lines
-        if not line.startswith("- `") or words & set(re.findall(r"[a-z=]+", re.search(SPAN, line)[1])[:1])
-    ]
+    first = {line: re.findall(r"[a-z=]+", re.search(SPAN, line)[1])[:1] for line in lines if line.startswith("- `")}
+    kept = [line for line in lines if line not in first or words & {*first[line]}]
     return kept if any(line.startswith("- ") for line in kept) else lines
 
 
@@ -186,13 +180,8 @@ def explained(text: str) -> str:
     for code in codes_in(text):
         if code in parts:
             group, more, lines = parts[code]
-            lines = about(lines, text) if code in ("answered", "trace") else lines
-            told += [
-                f"{code} ({group[0].lower() + group[1:]})",
-                "",
-                *map(shown, "\n".join(lines).strip().split("\n")),
-                "",
-            ]
+            lines = "\n".join(about(lines, text) if code in ("answered", "trace") else lines).strip().split("\n")
+            told += [f"{code} ({group[0].lower() + group[1:]})", "", *map(shown, lines), ""]
             told += [shown(more), ""] if more else []
     worked = worked_out(text) if told else []
     return "\n".join([*([word, ""] if word else []), *worked, *([""] if worked else []), *told]).rstrip()

@@ -46,20 +46,6 @@ def told(text: str, ending: str) -> str:
     return "\n".join(line for line in map(str.rstrip, text.split("\n")) if line)
 
 
-def crates_below(program: str) -> dict[str, list[str]]:
-    """The crates that a program stands on, each with those that it names, the program last."""
-    needs, found = crates.listed(), dict[str, list[str]]()
-
-    def visit(name: str) -> None:
-        if name in needs and name not in found:
-            for need in needs[name]:
-                visit(need)
-            found[name] = needs[name]
-
-    visit(program)
-    return found
-
-
 def files_of(folder: str) -> typing.Iterator[str]:
     """The sources in this folder of the repository, by their paths from its top."""
     for place, _, names in os.walk(os.path.join(TOP, folder)):
@@ -147,7 +133,7 @@ class Sources:
     """The sources as they are now: the sums of the code, of code and claims, and of all with the proofs."""
 
     def __init__(self) -> None:
-        self.crates = crates_below(PROGRAM)
+        self.crates = crates.below([PROGRAM], crates.listed())
         names = [*self.crates, FIRST]
         self.sums = self.summed([f"crates/{name}/{part}" for name in names for part in (CODE, CLAIMS, PROOFS)])
         self.files = sorted(self.sums)
