@@ -21,14 +21,11 @@ from front import sources
 
 MODULE = "module.bc"
 # As the kit itself compiles: these keep passes of clang out that are known to err.
-CAREFUL = [
-    "-no-trap-after-noreturn",
-    "-trap-unreachable",
-    "-no-x86-call-frame-opt",
-    "-disable-machine-licm",
-    "-disable-postra-machine-licm",
-]
-CAREFUL = [word for option in [*CAREFUL, "-sink-common-insts=false"] for word in ("-mllvm", option)]
+PASSES = (
+    "-no-trap-after-noreturn -trap-unreachable -no-x86-call-frame-opt -disable-machine-licm"
+    " -disable-postra-machine-licm -sink-common-insts=false"
+)
+CAREFUL = [word for option in PASSES.split() for word in ("-mllvm", option)]
 LEVEL = "-O1"
 
 

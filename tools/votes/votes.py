@@ -20,15 +20,11 @@ MOST_SERVERS, MOST_VOTES, MOST_COLLECTED, MOST_AGENTS = 32, 255, 65535, 64
 # How many sets of servers, and how many names, are told at most.
 TOLD = 20
 ABOUT = (
-    (
-        "Of one file or folder alone: of each folder on its path, from the root folder on, the votes of a read have to"
-        " be up too."
-    ),
-    (
-        "And of votes alone. Any server may be the home of a transaction, also one without a vote. If it is lost in the"
-        " middle of one that has prepared, what that one locked is in doubt: others end U2 there, until this server is"
-        " back and a sweep is made."
-    ),
+    "Of one file or folder alone: of each folder on its path, from the root folder on, the votes of a read have to"
+    " be up too.",
+    "And of votes alone. Any server may be the home of a transaction, also one without a vote. If it is lost in the"
+    " middle of one that has prepared, what that one locked is in doubt: others end U2 there, until this server is"
+    " back and a sweep is made.",
 )
 MISSED = (
     "Where these servers are down the votes are up and are not found: an agent without a hint in its cache begins at"
@@ -194,14 +190,13 @@ def told(votes: Votes, up: str) -> list[str]:
     for server, share in enumerate(votes.shares):
         by_share[share].append(str(server))
     lines = [f"{len(votes.shares)} server{'s' * (len(votes.shares) > 1)}, each up with chance {up}"]
-    for share in sorted(by_share, reverse=True):
-        servers = by_share[share]
+    for share, servers in sorted(by_share.items(), reverse=True):
         have = f"{share} vote{'s' * (share > 1)}" if share else "no vote"
         lines.append(listed(f"    {have:<13} ", [f"server{'s' * (len(servers) > 1)}", *servers], 0))
     kinds = [("read and write", votes.r)] if votes.r == votes.w else [("read", votes.r), ("write", votes.w)]
-    return lines + [
-        line for kind, needed in kinds for line in told_of(kind, votes.shares, needed, fractions.Fraction(up))
-    ]
+    for kind, needed in kinds:
+        lines += told_of(kind, votes.shares, needed, fractions.Fraction(up))
+    return lines
 
 
 def told_of_word(word: str, servers: int | None = None, up: str = "0.99") -> list[str]:
@@ -261,9 +256,8 @@ def missed_of(suite: search.Suite) -> tuple[str, ...]:
     kinds = [("read and write", read)] if read == write else [("read", read), ("write", write)]
     lines = []
     for kind, words in kinds:
-        if words:
-            lines += [f"{kind}: votes that were moved"]
-            lines += [listed("    not found     ", words[:TOLD], len(words)).rstrip(";")]
+        told = listed("    not found     ", words[:TOLD], len(words)).rstrip(";")
+        lines += [f"{kind}: votes that were moved", told] if words else []
     return tuple(lines)
 
 
@@ -273,10 +267,8 @@ def told_of_script(script: bytes, up: str) -> list[str]:
         name = f"{left.paths[number]}=suite {number}" if number in left.paths else f"suite {number}"
         alike[suite.newest().text(), missed_of(suite)].append(name)
     for (word, missed), names in alike.items():
-        lines.append(
-            listed("", [f"votes {word} of", *(f"{name}," for name in names[:TOLD])], len(names) + 1).rstrip(",")
-        )
-        lines += [*told(votes_of(word, left.servers), up), *missed]
+        first = [f"votes {word} of", *(f"{name}," for name in names[:TOLD])]
+        lines += [listed("", first, len(names) + 1).rstrip(","), *told(votes_of(word, left.servers), up), *missed]
         lines += [filled(MISSED.format(left.opening)), ""] if missed else [""]
     return [*lines, *map(filled, ABOUT)]
 
@@ -289,15 +281,12 @@ def told_of_shapes(servers: int, lose: tuple[int, int], up: str) -> list[str]:
         text = f"no votes of {servers} servers let reads lose {lose[0]} of them and writes {lose[1]}"
         raise console.Stop(f"{text}: a read needs one server, and a write more than half of all votes")
     wide = max(len("votes"), *(len(shape.word) for shape in found[:TOLD]))
-    heads = ("requests", "may be lost", "blocked", "blocked or home down")
     lines = [
-        (
-            f"{servers} server{'s' * (servers > 1)}, each up with chance {up}: reads go on without any {lose[0]},"
-            f" writes without any {lose[1]}"
-        ),
+        f"{servers} server{'s' * (servers > 1)}, each up with chance {up}: reads go on without any {lose[0]},"
+        f" writes without any {lose[1]}",
         "",
-        f"{'':{wide}}  {heads[0]:12} {heads[1]:12} {heads[2]:18} {heads[3]}",
-        f"{'votes':{wide}}  {'read  write':12} {'read  write':12} {'read':8} {'write':9} {'read':8} write",
+        f"{'':{wide}}  requests     may be lost  blocked            blocked or home down",
+        f"{'votes':{wide}}  read  write  read  write  read     write     read     write",
     ]
     for shape in found[:TOLD]:
         votes = search.word_of(shape.word)
@@ -327,12 +316,8 @@ def asked(words: list[str]) -> argparse.Namespace:
     if given.help:
         sys.exit(console.print_help("votes"))
     ways = [given.votes is not None, given.script is not None, given.of is not None]
-    if (
-        sum(ways) != 1
-        or (given.servers is not None and not ways[0])
-        or (given.lose_read or given.lose_write)
-        and not ways[2]
-    ):
+    is_vain = given.servers is not None and not ways[0] or (given.lose_read or given.lose_write) and not ways[2]
+    if sum(ways) != 1 or is_vain:
         read.error("either VOTES are named, or --script FILE, or --of N")
     if ways[2] and not (1 <= given.of <= MOST_SERVERS and min(given.lose_read, given.lose_write) >= 0):
         read.error(f"--of is a number from 1 to {MOST_SERVERS}, and none of them is lost more than once")
