@@ -15,6 +15,7 @@ the next time. Takes some fifteen minutes of processor time; none of it is part 
 import functools
 import json
 import os
+import pathlib
 import re
 import resource
 import shutil
@@ -29,7 +30,6 @@ import twice
 import unproved
 from twice import CRATES, Edit
 
-from common import text_of
 from compare import compare
 import explored
 
@@ -75,12 +75,11 @@ def with_switch(room: str) -> None:
     """Gives each of the crates what tells which wrong body is taken."""
     for crate in CRATES:
         folder = os.path.join(room, "crates", crate, "src")
-        with open(os.path.join(folder, "switch.rt"), "w", encoding="utf-8") as file:
-            file.write(SWITCH)
-        path = os.path.join(folder, "lib.rt")
-        text = text_of(path)
-        with open(path, "w", encoding="utf-8") as file:
-            file.write(re.sub(r"^((?:pub )?mod )", r"mod switch;\n\1", text, count=1, flags=re.M))
+        pathlib.Path(folder, "switch.rt").write_text(SWITCH)
+        library = pathlib.Path(folder, "lib.rt")
+        text = library.read_text(encoding="utf-8")
+        text = re.sub(r"^((?:pub )?mod )", r"mod switch;\n\1", text, count=1, flags=re.M)
+        library.write_text(text, encoding="utf-8")
 
 
 def asking(module: str) -> str:
@@ -95,8 +94,7 @@ def build_here(out: str) -> None:
     """Builds the program of these crates."""
     with tempfile.TemporaryDirectory() as folder:
         asks = os.path.join(folder, "asks.c")
-        with open(asks, "w", encoding="utf-8") as file:
-            file.write(ASKS)
+        pathlib.Path(asks).write_text(ASKS)
         unproved.build(out, asking, asks)
 
 

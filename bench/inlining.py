@@ -11,25 +11,15 @@ import os
 import re
 import typing
 
+import measure  # noqa: F401
+from common import functions
+
 WORDS = {"inline": "inlinehint", "inline(always)": "alwaysinline", "inline(never)": "noinline", "cold": "cold"}
 HINT = re.compile(r"#\[(inline|inline\(always\)|inline\(never\)|cold)\]")
-IMPL = re.compile(r"^(?:unsafe )?impl\b(?P<head>[^{]*)")
-FUNCTION = re.compile(r"^\s*(?:pub(?:\([\w: ]+\))? )?(?:const )?(?:unsafe )?fn (\w+)")
 GENERIC = re.compile(r"::<#[0-9a-f]+>$")
 DEFINED = re.compile(r'^(define [^\n]*?@"?)([^"(]+)("?\([^\n]*\) )#0 \{$', re.MULTILINE)
 COMMON = re.compile(r"^attributes #0 = \{ (.*) \}$", re.MULTILINE)
 FIRST_GROUP = 200
-
-
-def type_of(head: str) -> tuple[str | None, bool]:
-    """The name of the type whose impl begins with this head, and whether it is that of a trait."""
-    depth, bare = 0, ""
-    for letter in head.replace("->", ""):
-        depth += (letter == "<") - (letter == ">")
-        bare += letter if depth == 0 and letter != ">" else ""
-    trait, _, own = bare.split(" where")[0].rpartition(" for ")
-    found = re.search(r"([A-Za-z_][\w:]*)\s*$", own.strip())
-    return (found.group(1).split("::")[-1] if found else None, bool(trait))
 
 
 def hints_of(file: str) -> typing.Iterator[typing.Any]:
@@ -39,20 +29,16 @@ def hints_of(file: str) -> typing.Iterator[typing.Any]:
     crate, stem = folders[place - 1], folders[-1].removesuffix(".rt")
     if stem in ("mod", "lib"):
         stem = crate if folders[-2] == "src" else folders[-2]
-    own: typing.Any = None
-    words: set[str] = set()
-    with open(file, encoding="utf-8", errors="replace") as lines:
-        for line in lines:
-            if line.startswith("}"):
-                own = None
-            begins, function = IMPL.match(line), FUNCTION.match(line)
-            if begins:
-                own = type_of(begins["head"])
-            words.update(WORDS[word] for word in HINT.findall(line))
-            if function and words:
-                yield crate, function.group(1), own or (stem, None), frozenset(words)
-            if function:
-                words = set()
+    with open(file, encoding="utf-8", errors="replace") as source:
+        text = source.read()
+    lines = text.split("\n")
+    for one in functions.functions(text):
+        first = one.first
+        while lines[first - 1].lstrip().startswith(("//", "#[")):
+            first -= 1
+        words = frozenset(WORDS[word] for line in lines[first : one.first] for word in HINT.findall(line))
+        if words:
+            yield crate, one.name, (one.of, one.by_trait) if one.of or one.by_trait else (stem, None), words
 
 
 def fits(path: typing.Any, own: typing.Any) -> bool:

@@ -122,53 +122,43 @@ INPUTS = (
 )
 
 
-def timed(program: str, data: bytes) -> tuple[float, bytes]:
-    """The least seconds of a program, and what it printed."""
-    status, output, seconds = measure.work([program, "play"], data, 3)
-    if status != 0:
-        sys.exit(f"{program}: status {status}, {output[:200]!r}")
-    return seconds, output
+def runs_of(programs: list[str], data: bytes) -> list[measure.Ran]:
+    """The run of each program that took the least seconds of a processor."""
+    runs = [measure.least("work", [program, "play"], data, 3) for program in programs]
+    for program, ran in zip(programs, runs):
+        if ran.status != 0:
+            sys.exit(f"{program}: status {ran.status}, {ran.output[:200]!r}")
+    return runs
 
 
-def times(program: str, other: str | None) -> None:
-    """The tables of seconds."""
+def tables(programs: list[str]) -> list[str]:
+    """The tables of seconds, and at last that of peaks; which of these are too high."""
+    beside = f"{'other':>10}{'ratio':>8}" if programs[1:] else ""
+    peaks, above = [f"{'':>20}{'MiB':>10}{beside}"], []
     for title, made, counts in INPUTS:
-        print(f"{title:>20}{'seconds':>10}{'growth':>8}" + (f"{'other':>10}{'ratio':>8}" if other else ""))
-        before = None
+        print(f"{title:>20}{'seconds':>10}{'growth':>8}{beside}")
+        before = 0.0
         for count in counts:
-            data = made(count).encode()
-            seconds, output = timed(program, data)
-            line = f"{count:>20}{seconds:>10.3f}" + (f"{seconds / before:>8.2f}" if before else f"{'':8}")
-            if other:
-                plain, same = timed(other, data)
-                line += f"{plain:>10.3f}{seconds / plain:>8.2f}" + ("" if same == output else " OTHER OUTPUT")
+            own, *others_of = runs_of(programs, made(count).encode())
+            line = f"{count:>20}{own.work:>10.3f}" + (f"{own.work / before:>8.2f}" if before else f"{'':8}")
+            peak = f"{title + ' ' + str(count):>20}{own.peak:>10.1f}"
+            for other in others_of:
+                line += f"{other.work:>10.3f}{own.work / other.work:>8.2f}"
+                line += "" if other.output == own.output else " OTHER OUTPUT"
+                peak += f"{other.peak:>10.1f}{own.peak / other.peak:>8.2f}"
+                if counts is KEPT and own.peak > MEMORY * other.peak:
+                    above.append(f"{title}, {count}: {own.peak / other.peak:.2f}")
             print(line, flush=True)
-            before = seconds
-
-
-def memory(program: str, other: str | None) -> list[str]:
-    """The table of peaks, and which are too high."""
-    above = []
-    print(f"{'':>20}{'MiB':>10}" + (f"{'other':>10}{'ratio':>8}" if other else ""))
-    for title, made in (("records", records), ("others", others)):
-        for count in KEPT:
-            data = made(count).encode()
-            peak = measure.run([program, "play"], data)[3]
-            line = f"{title + ' ' + str(count):>20}{peak:>10.1f}"
-            if other:
-                plain = measure.run([other, "play"], data)[3]
-                line += f"{plain:>10.1f}{peak / plain:>8.2f}"
-                if peak > MEMORY * plain:
-                    above.append(f"{title}, {count}: {peak / plain:.2f}")
-            print(line, flush=True)
+            peaks += [peak] if counts is KEPT else []
+            before = own.work
+    print(*peaks, sep="\n")
     return above
 
 
 def main() -> None:
     program, other = measure.two_programs(__doc__)
     measure.head("Much that was left behind")
-    times(program, other)
-    above = memory(program, other)
+    above = tables([program, *([other] if other else [])])
     if above:
         sys.exit(f"memory above {MEMORY} times the other's: " + "; ".join(above))
 

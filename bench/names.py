@@ -16,7 +16,6 @@ import tempfile
 
 import measure
 
-HERE = os.path.dirname(os.path.abspath(__file__))
 COUNTS = [20000, 40000, 80000]
 # a command line has room for fewer
 WORDS = [15000, 30000, 60000]
@@ -29,10 +28,8 @@ def colliding(count: int) -> list[str]:
     """Names that collide."""
     with tempfile.TemporaryDirectory() as folder:
         search = os.path.join(folder, "names")
-        subprocess.run(["cc", "-O2", "-o", search, os.path.join(HERE, "names.c")], check=True)
-        return subprocess.run(
-            [search, str(count), str(BITS)], stdout=subprocess.PIPE, check=True, text=True
-        ).stdout.split()
+        subprocess.run(["cc", "-O2", "-o", search, os.path.join(measure.TOP, "bench", "names.c")], check=True)
+        return subprocess.check_output([search, str(count), str(BITS)], text=True).split()
 
 
 def plain(count: int) -> list[str]:
@@ -64,7 +61,7 @@ def main() -> None:
             before = 0.0
             for count in counts:
                 words, data, wanted = form(program, names[:count])
-                status, output, seconds = measure.work(words, data)
+                status, output, _, seconds, _ = measure.least("work", words, data)
                 if (status, output) != (0, wanted):
                     sys.exit(f"{title}, {kind}, {count} names: status {status}, {output[:80]!r}")
                 size = len(data) if form is by_script else sum(len(word) + 1 for word in words)

@@ -30,14 +30,12 @@ def main() -> None:
     for name, files in (("files of their own", FILES), ("one file", 1)):
         for agents in (1, 2, 4):
             words = [program, "serve", "--agents", str(agents)]
-            status, printed, seconds, peak = measure.least(words, script(jobs, files))
-            if status != 0 or b"\ncertified " not in printed:
-                sys.exit(f"{name}, {agents} agents: status {status}")
-            answered = printed.count(b" answered ") - FILES
-            print(
-                f"{name:20} {agents} agents {seconds:7.3f} s {jobs / seconds:9,.0f} jobs/s {answered:6} answered"
-                f" {peak:6.1f} MiB"
-            )
+            ran = measure.least("seconds", words, script(jobs, files))
+            if ran.status != 0 or b"\ncertified " not in ran.output:
+                sys.exit(f"{name}, {agents} agents: status {ran.status}")
+            answered = ran.output.count(b" answered ") - FILES
+            rate = f"{ran.seconds:7.3f} s {jobs / ran.seconds:9,.0f} jobs/s"
+            print(f"{name:20} {agents} agents {rate} {answered:6} answered {ran.peak:6.1f} MiB")
 
 
 if __name__ == "__main__":

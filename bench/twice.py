@@ -91,10 +91,7 @@ def changes_of(edit: Edit) -> Changed:
     for one in edit.changes:
         text = text_of("crates", edit.crate, one.file)
         lines = text.split("\n")
-        at = next((place for place, line in enumerate(lines) if one.old in line), None)
-        if one.function and at is not None:
-            at = text.count("\n", 0, changes.place_of(text, one))
-        function = None if at is None else function_at(lines, at)
+        function = function_at(lines, text.count("\n", 0, changes.place_of(text, one)))
         if not function or function.by_trait or " const " in f" {lines[function.first]}":
             return {}
         found.setdefault((one.file, function.first), (function, []))[1].append((one.old, one.new))

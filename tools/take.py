@@ -40,7 +40,8 @@ def take(folder: str, names: typing.Sequence[str]) -> list[str]:
     unknown = [name for name in names if name not in known]
     if unknown:
         raise console.Bad(f"no crate is called {' or '.join(unknown)}; crates.txt has all")
-    taken, there = crates.below(names, known), crates.listed(folder)
+    below, there = crates.below(names, known), crates.listed(folder)
+    taken = [name for name in known if name in below]
     for name in taken:
         pair = [os.path.join(top, "crates", name) for top in (TOP, folder)]
         if os.path.exists(pair[1]) and not is_same(*pair):

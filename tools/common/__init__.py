@@ -1,5 +1,6 @@
 """What the tools of several rooms use, and where the repository is."""
 import os
+import pathlib
 import sys
 
 TOOLS = os.path.dirname(os.path.dirname(os.path.abspath(__file__)))
@@ -18,5 +19,4 @@ def of_kit(*words: str) -> list[str]:
 
 def text_of(*path: str) -> str:
     """The text of a file, by its path from the top of the repository."""
-    with open(os.path.join(TOP, *path), encoding="utf-8") as file:
-        return file.read()
+    return pathlib.Path(TOP, *path).read_text(encoding="utf-8")

@@ -54,7 +54,7 @@ class Teller:
 
     def __init__(self) -> None:
         self.begun = time.monotonic()
-        self.changes = sys.stderr.isatty()
+        self.changes = bool(sys.stderr) and sys.stderr.isatty()
 
     def seconds(self) -> int:
         return int(time.monotonic() - self.begun)
@@ -78,16 +78,20 @@ class Progress:
     """Says on a terminal how far a tool is, where that takes its time."""
 
     def __init__(self) -> None:
-        self.teller, self.last = Teller(), 0.0
+        self.teller, self.next, self.is_shown = Teller(), float(PATIENCE), False
         self.is_over = not self.teller.changes
 
     def say(self, text: str) -> None:
-        if self.is_over:
-            return
         seconds = time.monotonic() - self.teller.begun
-        if seconds >= max(PATIENCE, self.last + AGAIN):
-            self.last = seconds
+        if not self.is_over and seconds >= self.next:
+            self.next, self.is_shown = seconds + AGAIN, True
             self.teller.say(f"{text}, {int(seconds)} s", False)
+
+    def clear(self) -> None:
+        """Takes away what was said last."""
+        if self.is_shown:
+            self.teller.clear()
+        self.is_shown = False
 
     def make_way(self) -> None:
         """Before something is written: says nothing more where that goes to the terminal too."""
@@ -96,8 +100,7 @@ class Progress:
 
     def end(self) -> None:
         """Takes away what was said last, and says nothing more."""
-        if self.last and not self.is_over:
-            self.teller.clear()
+        self.clear()
         self.is_over = True
 
 
@@ -127,7 +130,7 @@ def alone(path: str, teller: Teller) -> typing.Iterator[bool]:
 
 def start(
     words: list[str], folder: str | None, log: typing.IO[bytes] | int, **how: typing.Any
-) -> subprocess.Popen[bytes]:
+) -> subprocess.Popen[typing.Any]:
     """Starts a command in a group of its own, so that it can be stopped whole."""
     how = {"stdin": subprocess.DEVNULL, "stdout": log, "stderr": subprocess.STDOUT, "start_new_session": True, **how}
     return subprocess.Popen(words, cwd=folder, **how)

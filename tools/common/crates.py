@@ -21,12 +21,16 @@ def line_of(name: str, needs: list[str]) -> str:
     return f"{name}: {' '.join(needs)}".rstrip() + "\n"
 
 
-def below(names: typing.Iterable[str], known: dict[str, list[str]]) -> list[str]:
-    """These crates and those that they stand on, so far as they are known, in the order of the list."""
-    found, left = set[str](), list(names)
-    while left:
-        name = left.pop()
+def below(names: typing.Iterable[str], known: dict[str, list[str]]) -> dict[str, list[str]]:
+    """These crates and those that they stand on, so far as they are known, each behind those that it names."""
+    found: dict[str, list[str]] = {}
+
+    def visit(name: str) -> None:
         if name in known and name not in found:
-            found.add(name)
-            left += known[name]
-    return [name for name in known if name in found]
+            for need in known[name]:
+                visit(need)
+            found[name] = known[name]
+
+    for name in names:
+        visit(name)
+    return found

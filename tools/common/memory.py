@@ -1,6 +1,7 @@
 """How much memory is free, how much a program may have of it, and how much it has."""
 import contextlib
 import os
+import pathlib
 import re
 import resource
 
@@ -14,12 +15,10 @@ LEFT = 256 << 20
 
 
 def number_in(path: str, pattern: str = r"^(\d+)") -> int | None:
-    try:
-        with open(path, encoding="utf-8") as file:
-            found = re.search(pattern, file.read(), re.M)
-    except OSError:
-        return None
-    return int(found[1]) if found else None
+    with contextlib.suppress(OSError):
+        for found in re.finditer(pattern, pathlib.Path(path).read_text(encoding="utf-8"), re.M):
+            return int(found[1])
+    return None
 
 
 def free() -> int:

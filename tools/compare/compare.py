@@ -10,78 +10,43 @@ Status 1 where something differs, or a script cannot be played.
 """
 import collections
 import itertools
-import os
 import re
-import subprocess
 import sys
 
-from common import TOP, console, numbers
+from common import built, console, numbers
 from compare import scenario
 from explain import denials
-from trace.events import OF_SERVERS, Event, begun, decided, events_of
+from explain.play_lines import Played
+from trace.events import OF_SERVERS, Event, decided, events_of
 from trace.lines import printed
 
-SUITES = os.path.join(TOP, "suites")
 NUMBERED = re.compile(r"\b(made|suite) (\d+)")
 HEADER = {"servers", "agents", "votes", "root", "cache", "user", "group"}
 
 
-class Job:
-    """A transaction that was begun: its line, whose it is, and what became of it."""
-
-    def __init__(self, words: list[str]) -> None:
-        self.uid, self.groups, self.ops = words[2], words[3], " ".join(words[5:])
-        self.ending: str | None = None
-        self.verdict: str | None = None
-        self.home: int | None = None
-
-
 def output(command: str, script: str) -> list[str]:
-    done = subprocess.run(
-        [SUITES, command], input=script.encode("latin1"), stdout=subprocess.PIPE, stderr=subprocess.DEVNULL
-    )
-    if done.returncode != 0:
-        raise console.Stop(f"{console.ended('suites', done.returncode)}: {done.stdout.decode('latin1').strip()}")
-    return done.stdout.decode("latin1").splitlines()
+    status, told = built.asked(command, script, path=built.chosen()[1])
+    if status != 0:
+        raise console.Stop(f"{console.ended('suites', status)}: {told.strip()}")
+    return told.splitlines()
 
 
-class Run:
-    """A run as its events show it: its transactions, those that were decided in their order, and the audits."""
+class Run(Played):
+    """A run as its events show it, with the audits behind the last decision, which tell all denials."""
 
-    def __init__(self, events: list[Event]) -> None:
-        self.jobs: dict[int, Job] = {}
-        self.decided: list[int] = []
+    def __init__(self, told: list[Event]) -> None:
+        super().__init__(told, told)
         self.audits: dict[int, list[str]] = {}
-        self.played: list[str] = []
-        for event in events:
-            job = begun(event)
-            if job and event["text"].split()[0] == "begin":
-                self.jobs[numbers.transaction(*job)] = Job(event["text"].split())
-            self.take(event)
-            self.played += printed(event)
-
-    def take(self, event: Event) -> None:
-        """Keeps what an event tells. The audits behind the last decision count, which tell all denials."""
-        decision = decided(event)
-        if decision:
-            t, verdict = decision
-            self.jobs[t].verdict, self.jobs[t].home = verdict, event["server"]
-            self.decided.append(t)
-            self.audits.clear()
-        if "end" in event:
-            job = self.jobs.get(numbers.transaction(event["end"]["agent"], event["end"]["job"]))
-            if job:
-                job.ending = event["end"]["text"]
-        if "audit" in event:
-            self.audits[event["audit"]["server"]] = [*printed(event)][1:]
+        for event in told:
+            if decided(event):
+                self.audits.clear()
+            if "audit" in event:
+                self.audits[event["audit"]["server"]] = [*printed(event)][1:]
 
 
-def with_votes(ops: str, votes: str) -> str:
-    """Operations in which each that makes something says with which votes."""
-    return " ; ".join(
-        f"{op} {votes}" if op.split()[0] in ("file", "folder") and len(op.split()) == 3 else op
-        for op in ops.split(" ; ")
-    )
+def with_votes(op: str, votes: str) -> str:
+    """An operation, which says with which votes it makes something."""
+    return f"{op} {votes}" if op.split()[0] in ("file", "folder") and len(op.split()) == 3 else op
 
 
 def table_script(script: str, run: Run) -> str:
@@ -89,7 +54,8 @@ def table_script(script: str, run: Run) -> str:
     votes = next(line.split()[1] for line in script.splitlines() if line.split()[:1] == ["votes"])
     lines = denials.header_of(script)
     lines.append(f"do {' '.join(lines[0].split()[1:3])} setvotes / {votes}")
-    lines += [f"do {run.jobs[t].uid} {run.jobs[t].groups} {with_votes(run.jobs[t].ops, votes)}" for t in run.decided]
+    asked = [run.jobs[t].asked() for t in run.decided]
+    lines += [one._replace(operations=[with_votes(op, votes) for op in one.operations]).line() for one in asked]
     return "\n".join(lines) + "\n"
 
 
@@ -108,7 +74,8 @@ def differences(script: str) -> tuple[list[str], collections.Counter[str]]:
     """What differs between a script's run and the plain table; and what there was to compare."""
     events = events_of(script.encode("latin1"))
     run = Run(events)
-    wrong = [] if output("play", script) == run.played else ["play and trace print different lines"]
+    told_of = [line for line, _ in run.printed]
+    wrong = [] if output("play", script) == told_of else ["play and trace print different lines"]
     found, told = differences_of(run, output("table", table_script(script, run)))
     told["requests"] = sum(event["kind"] == "request" for event in events)
     verbs = (event["text"].split()[0] for event in events if event["kind"] == "line")
@@ -127,20 +94,22 @@ def differences_of(run: Run, table: list[str]) -> tuple[list[str], collections.C
         wrong.append(f"{len(run.decided)} transactions are decided, and table answers {len(answers)}")
     for t, answer in zip(run.decided, answers):
         job = run.jobs[t]
+        ending = job.ending.split(" ", 2)[-1]
         told[f"decided: {answer.split()[0]}"] += 1
-        if job.ending is None:
+        if not ending:
             told["decided, and the agent stopped"] += 1
-        if mapped(job.ending or "", places) != (answer if job.ending else ""):
-            wrong.append(f"t {t}: play says {job.ending}, and table {answer}")
+        if mapped(ending, places) != (answer if ending else ""):
+            wrong.append(f"t {t}: play says {ending}, and table {answer}")
         if (job.verdict == "answered") != answer.startswith("answered"):
             wrong.append(f"t {t}: decided {job.verdict}, and table says {answer}")
-        if answer.startswith("denied") and job.home in audits:
-            audits[job.home].append(f"t {t} uid {job.uid} {answer[len('denied '):]}")
+        if answer.startswith("denied") and run.home(job) in audits:
+            audits[run.home(job)].append(f"t {t} uid {job.words[2]} {answer[len('denied '):]}")
     for t, job in run.jobs.items():
-        if t not in places:
-            told[f"undecided {job.ending.split()[1]}" if job.ending else "undecided, and the agent stopped"] += 1
-            if job.ending and not job.ending.startswith("undecided"):
-                wrong.append(f"t {t}: ended as {job.ending}, and was never decided")
+        if t not in places and job.operations:
+            ending = job.ending.split(" ", 2)[-1]
+            told[f"undecided {ending.split()[1]}" if ending else "undecided, and the agent stopped"] += 1
+            if ending and not ending.startswith("undecided"):
+                wrong.append(f"t {t}: ended as {ending}, and was never decided")
     for server, items in audits.items():
         if [mapped(item, places) for item in run.audits[server]] != items:
             wrong.append(f"audit {server}: {run.audits[server]}, wanted {items}")

@@ -28,6 +28,7 @@ LISTS = [
 ]
 # How often an operation is drawn; of one that is not named here SELDOM.
 OFTEN, SELDOM = {"read": 20, "write": 20, "list": 8, "file": 10, "folder": 5, "drop": 5, "setacl": 8, "getvotes": 3}, 6
+EVENTS = {"whole": 36, "begin": 14, "step": 22, "run": 8, "crash": 5, "return": 9, "sweep": 4, "forget": 2, "heal": 3}
 MODES = ["777", "755", "750", "700", "666", "644", "640", "600", "077"]
 ROOTS = ["777", "777", "755", "u::rwx,u:2000:rwx,g::rwx,m::rwx,o::rx"]
 
@@ -111,15 +112,11 @@ class Scenario:
 
     def event(self) -> None:
         agent, server = self.dice.randrange(self.agents), self.dice.randrange(self.servers)
-        what = self.dice.choices(
-            ["whole", "begin", "step", "run", "crash", "return", "sweep", "forget", "heal"],
-            [36, 14, 22, 8, 5, 9, 4, 2, 3],
-        )[0]
-        if what == "whole":
+        what = self.dice.choices([*EVENTS], [*EVENTS.values()])[0]
+        if what in ("whole", "begin"):
             self.begin(agent)
+        if what in ("whole", "run"):
             self.say("run", agent)
-        elif what == "begin":
-            self.begin(agent)
         elif what == "step":
             self.say("step", agent, self.dice.choice([1, 1, 2, 3, 5, 8]))
         elif what == "crash":
@@ -136,8 +133,6 @@ class Scenario:
             self.say("forget", agent, self.dice.choice([0, 3]))
         elif what == "heal":
             self.heal()
-        else:
-            self.say("run", agent)
 
     def script(self) -> str:
         self.say("servers", self.servers)

@@ -10,8 +10,6 @@ from common import built
 from explain import faults
 
 OPEN = "u::rwx,g::rwx,o::rwx"
-# What is told of an operation that was denied.
-DENIED = re.compile(r"op (\d+) suite (\d+) wants (\S+) by (\S+)")
 
 
 class Asked(typing.NamedTuple):
@@ -23,6 +21,14 @@ class Asked(typing.NamedTuple):
 
     def line(self) -> str:
         return f"do {self.uid} {self.groups} {' ; '.join(self.operations)}"
+
+
+class Denied(typing.NamedTuple):
+    """An operation that was denied: its place, counted from 1, the path that it came to, and what decided."""
+
+    place: int
+    path: str
+    by: str
 
 
 def table(lines: list[str]) -> list[str]:
@@ -45,12 +51,6 @@ def owner_of(path: str, root: list[str], jobs: list[Asked], answers: list[str]) 
     return next(reversed(makers(path, root, answered)), None)
 
 
-def above(path: str) -> list[str]:
-    """The folders on the way to a path, the root folder first."""
-    parts = [part for part in path.split("/") if part]
-    return ["/" + "/".join(parts[:count]) for count in range(len(parts))]
-
-
 def header_of(script: str) -> list[str]:
     """The lines of a script of which a script of `table` has the same: its root folder and its names."""
     said = [line.split() for line in faults.lines_of(script) if line.split() and not line.startswith("#")]
@@ -65,7 +65,9 @@ def answers(script: str, jobs: list[Asked]) -> list[str]:
 
 def list_then(script: str, jobs: list[Asked], path: str) -> tuple[str, str, str] | None:
     """The owner, the group and the list of a path after these transactions; owners open the folders on the way."""
-    header, folders = header_of(script), above(path)
+    header, parts = header_of(script), [part for part in path.split("/") if part]
+    # those on the way to it, the root folder first
+    folders = ["/" + "/".join(parts[:count]) for count in range(len(parts))]
     root = header[0].split()
     lines = [f"do {' '.join(one)} setacl {folder} {OPEN}" for folder in folders for one in makers(folder, root, jobs)]
     asked = makers(path, root, jobs)
@@ -78,21 +80,16 @@ def list_then(script: str, jobs: list[Asked], path: str) -> tuple[str, str, str]
     return (*owner, found[1]) if found else None
 
 
-def entries(text: str) -> list[tuple[str, str, str]]:
-    """The entries of a list as `play` writes it: the letter of the kind, whom it names, and the permissions."""
-    found = [item.split(":") for item in text.split(",") if not item.startswith(("d:", "default:"))]
-    return [(fields[0][0], fields[1], fields[2]) for fields in found]
-
-
 def case_of(text: str, owner: str, group: str, caller: Asked) -> str:
     """Which entries of a list a caller is judged by, by acl(5)."""
-    listed = entries(text)
+    # of each entry, as `play` writes them, the letter of its kind and whom it names
+    listed = [(item[0], item.split(":")[1]) for item in text.split(",") if not item.startswith(("d:", "default:"))]
     if caller.uid == owner:
         return "is the owner, so the owner's entry alone counts, user::"
-    if any(kind == "u" and who == caller.uid for kind, who, _ in listed):
+    if ("u", caller.uid) in listed:
         return f"is named by an entry, user:{caller.uid}, which counts with the mask"
     groups = caller.groups.split(",")
-    named = [who or group for kind, who, _ in listed if kind == "g" and (who or group) in groups]
+    named = [who or group for kind, who in listed if kind == "g" and (who or group) in groups]
     if named:
         return (
             f"is neither the owner nor named, but in group {' and '.join(named)}, whose entries count with the mask, if"
@@ -101,18 +98,18 @@ def case_of(text: str, owner: str, group: str, caller: Asked) -> str:
     return "is neither the owner, nor named, nor in a group of the list, so the entry of all others counts, other::"
 
 
-def told(script: str, before: list[Asked], caller: Asked, place: int, path: str, decider: str) -> typing.Iterator[str]:
-    """The sentences about the list, the owner, and the caller of whom the operation at this place was denied."""
-    jobs = before + ([caller._replace(operations=caller.operations[: place - 1])] if place > 1 else [])
-    found = list_then(script, jobs, path)
+def told(script: str, before: list[Asked], caller: Asked, denied: Denied) -> typing.Iterator[str]:
+    """The sentences about the list, the owner, and the caller of whom an operation was denied."""
+    done = caller.operations[: denied.place - 1]
+    found = list_then(script, before + ([caller._replace(operations=done)] if done else []), denied.path)
     if not found:
         return
     owner, group, text = found
     yield f"Its list was then {text}, its owner user {owner}, and its group {group}."
-    if decider == "owner":
+    if denied.by == "owner":
         yield f"User {caller.uid} is not the owner, and nobody else may do that."
     else:
         yield (
             f"User {caller.uid} of groups {caller.groups} {case_of(text, owner, group, caller)}. What decided is"
-            f" {decider}."
+            f" {denied.by}."
         )

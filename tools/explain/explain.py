@@ -1,20 +1,7 @@
 """./suites explain [--of COMMAND] LINE [FILE]
 
-Prints what docs/FAULTS.md says of a code, or of a line as the program, `votes` or `may` printed it; what a word
-means; and what a line of a script says, word by word. Where the script or the list is named that a line was printed
-of: of a fault the very line or item, and what is wrong with it; of how a job ended what happened, for which the
-script is played once more.
-
-    ./suites explain S1
-    ./suites explain 'fault line 3: S2' SCRIPT
-    ./suites explain 'fault A9 item 2' LIST
-    ./suites explain '1.2 9 denied op 1 suite 1 wants r-- by other::' SCRIPT
-    ./suites explain 'begin 0 1000 100 0 file /a 644 ; write /a 6869'
-    ./suites explain prefix
-    ./suites explain 'status 6'
-
-Which command a script is of is told by its lines, or by --of play, --of serve or --of table. A script of - is
-standard input.
+What docs/FAULTS.md says of a code or of a printed line, what a word means, and what stands behind a line in its script;
+help/explain.txt tells all of it.
 """
 import argparse
 import functools
@@ -39,20 +26,15 @@ FAULT = re.compile(r"fault (?:line (\d+): )?([SAVNG]\d+(?: A\d+)?(?: item \d+)?)
 # The parts of the page that tell of a line of such a form: of `explore`, of a session besides what its lines print, of
 # a trace, and of a list.
 OF_WAYS, OF_TRACE = ("all", "way"), "trace"
-KINDS = (
-    (
-        "all",
-        r"(?:(?:not )?all|sampled):? \d+ ways, \d+ (?:worlds|runs)$|sampled \d+ orders(?:, \d+ dropped)?: \d+ ways$",
-    ),
-    (
-        "way",
-        r"way \d+(?: in \d+ of \d+ ends|: \d+ (?:worlds at the end|runs), \d+ of them so)?$"
-        r"|\d+\.\d+ -$|decided(?: \d+\.\d+)*$",
-    ),
-    ("session", r"= (?:restored \d+ lines|\d+)$|(?:row|content|copies|locks|room) |(?:copies|room)$"),
-    (OF_TRACE, r"> |= server|nothing happens|\d+ -> s\d+|t \d+ suite|\S*suite \d+ \w+ prefix"),
-    ("entry", r"(?:default:)?(?:user|group|mask|other):\d*:[r-][w-][x-]"),
-)
+KINDS = {
+    "all": r"(?:(?:not )?all|sampled):? \d+ ways, \d+ (?:worlds|runs)$"
+    r"|sampled \d+ orders(?:, \d+ dropped)?: \d+ ways$",
+    "way": r"way \d+(?: in \d+ of \d+ ends|: \d+ (?:worlds at the end|runs), \d+ of them so)?$"
+    r"|\d+\.\d+ -$|decided(?: \d+\.\d+)*$",
+    "session": r"= (?:restored \d+ lines|\d+)$|(?:row|content|copies|locks|room) |(?:copies|room)$",
+    OF_TRACE: r"> |= server|nothing happens|\d+ -> s\d+|t \d+ suite|\S*suite \d+ \w+ prefix",
+    "entry": r"(?:default:)?(?:user|group|mask|other):\d*:[r-][w-][x-]",
+}
 VOTES = re.compile(r"(?:\d+,|-,)*\d+/\d+/\d+$")
 MARKED = re.compile(r"= (\d+)$")
 # What begins the line of an outcome: an agent and its job, or a job, and how many requests it took; or a transaction.
@@ -98,7 +80,7 @@ def parts_by_word() -> dict[str, str]:
 
 def kind_of(text: str) -> str:
     """The part of the page about a line of its form; nothing where no form is its."""
-    return next((kind for kind, form in KINDS if re.match(form, text)), "")
+    return next((kind for kind, form in KINDS.items() if re.match(form, text)), "")
 
 
 def codes_in(text: str) -> list[str]:
@@ -121,30 +103,27 @@ def codes_in(text: str) -> list[str]:
     return found + (["transaction"] if NUMBERED.search(rest) else [])
 
 
-def counted(number: str) -> str:
-    return f"{number} request{'s' if int(number) != 1 else ''}"
-
-
 def worked_out(text: str) -> list[str]:
     """What the numbers of a line say, one by one."""
     front = FRONT.match(text)
     told = []
+    count = front and (front[3] or front[5])
+    took = f"; it took {count} request{'s' if int(count) != 1 else ''}" if count else ""
     if front and front[1]:
-        took = f"; it took {counted(front[3])}" if front[3] else ""
         told.append(f"Job {front[2]} of agent {front[1]}, both counted from 0{took}.")
     elif front and front[4]:
-        told.append(f"Job {front[4]} of the script, counted from 0; it took {counted(front[5])}.")
+        told.append(f"Job {front[4]} of the script, counted from 0{took}.")
     elif front:
         told.append(f"Transaction {front[6]} of the script, counted from 0.")
     for made, suite, t in NUMBERED.findall(text):
         if made:
             t, place = numbers.maker_of(int(suite))
-            is_made = f"made by operation {place + 1} of transaction {t}"
-            told.append(f"{suite} = {numbers.OPERATIONS} * {t} + {place + 1}: {is_made}.")
+            by = f"made by operation {place + 1} of transaction {t}"
+            told.append(f"{suite} = {numbers.OPERATIONS} * {t} + {place + 1}: {by}.")
         if not (front and front[6]):
             agent, job = numbers.job_of(int(t))
-            is_of = f"in play and serve transaction {t} is job {job} of agent {agent}"
-            told.append(f"{t} = {numbers.AGENTS} * {job} + {agent}: {is_of}.")
+            of = f"in play and serve transaction {t} is job {job} of agent {agent}"
+            told.append(f"{t} = {numbers.AGENTS} * {job} + {agent}: {of}.")
     return list(dict.fromkeys(told))
 
 
@@ -167,11 +146,8 @@ def shown(line: str) -> str:
 def about(lines: list[str], text: str) -> list[str]:
     """The lines of a part; of those that tell of a word each only those whose word is in the text, if any is."""
     words = set(re.findall(r"[a-z=]+", text))
-    kept = [
-        line
-        for line in lines
-        if not line.startswith("- `") or words & set(re.findall(r"[a-z=]+", re.search(SPAN, line)[1])[:1])
-    ]
+    first = {line: re.findall(r"[a-z=]+", re.search(SPAN, line)[1])[:1] for line in lines if line.startswith("- `")}
+    kept = [line for line in lines if line not in first or words & {*first[line]}]
     return kept if any(line.startswith("- ") for line in kept) else lines
 
 
@@ -204,13 +180,8 @@ def explained(text: str) -> str:
     for code in codes_in(text):
         if code in parts:
             group, more, lines = parts[code]
-            lines = about(lines, text) if code in ("answered", "trace") else lines
-            told += [
-                f"{code} ({group[0].lower() + group[1:]})",
-                "",
-                *map(shown, "\n".join(lines).strip().split("\n")),
-                "",
-            ]
+            lines = "\n".join(about(lines, text) if code in ("answered", "trace") else lines).strip().split("\n")
+            told += [f"{code} ({group[0].lower() + group[1:]})", "", *map(shown, lines), ""]
             told += [shown(more), ""] if more else []
     worked = worked_out(text) if told else []
     return "\n".join([*([word, ""] if word else []), *worked, *([""] if worked else []), *told]).rstrip()
@@ -303,7 +274,7 @@ def answer(words: list[str]) -> str:
     given = asked(words)
     text = " ".join(given.text)
     if given.help or not text:
-        return __doc__.strip()
+        return text_of("help", "explain.txt").strip()
     fault = FAULT.match(text)
     if fault and fault[3]:
         return of_file(fault, fault[3], given.of)

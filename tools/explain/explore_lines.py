@@ -1,6 +1,7 @@
 """What is told of a line that `explore` printed of a script, with that script: which line of it a job is, and how one
 comes to a way.
 """
+import collections
 import re
 import typing
 
@@ -37,12 +38,12 @@ def halves(script: str) -> tuple[str, list[tuple[int, list[str]]]]:
 def jobs_of(script: str, name: str) -> dict[tuple[int, int], tuple[int, list[str]]]:
     """The jobs below the line: those of an agent and of a number have a line and its words."""
     above, below = halves(script)
-    counts = dict(play_lines.played(above.encode("latin1"), name).counts)
+    counts = collections.Counter(play_lines.played(above.encode("latin1"), name).counts)
     found = {}
     for number, words in below:
         agent = int(words[1])
-        found[agent, counts.get(agent, 0)] = number, words
-        counts[agent] = counts.get(agent, 0) + 1
+        found[agent, counts[agent]] = number, words
+        counts[agent] += 1
     return found
 
 
@@ -69,10 +70,8 @@ def of_wait(text: str) -> tuple[str, str] | None:
 def of_awaited(script: str, number: int) -> str:
     """Why a job that did not end may not have begun, where its line waits."""
     found = WAITS.match(" ".join(faults.lines_of(script)[number - 1].split()))
-    if not found:
-        return ""
-    ended = " is answered" if found[3] else " has ended"
-    return f"; or it never began, since it waits until job {found[2]} of agent {found[1]}{ended}"
+    ended = "is answered" if found and found[3] else "has ended"
+    return f"; or it never began, since it waits until job {found[2]} of agent {found[1]} {ended}" if found else ""
 
 
 def of_waiting(script: str, number: int, name: str) -> list[str]:

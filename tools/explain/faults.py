@@ -54,14 +54,14 @@ def told_of(command: str, line: str, misfit: Misfit) -> str:
     words = WORD.findall(line)
     word = words[misfit.at] if misfit.at < len(words) else ""
     if misfit.expected == "LINE":
-        told = told_of_first(command, word, misfit)
-    elif misfit.expected == "OPERATION" and misfit.why.reason == "due":
-        told = no_operation(word, misfit) + shifted(words, misfit)
+        return told_of_first(command, word, misfit) + HIDDEN[misfit.hidden]
+    if misfit.expected == "OPERATION" and misfit.why.reason == "due":
+        told = unknown("is no operation", word, misfit, [*OPERATIONS])
     else:
         item = word[slice(*misfit.ends)] if misfit.ends else ""
         text = Of(misfit.why, word, misfit.expected, misfit.form.split()[0]).text()
-        told = of_item(misfit.code, misfit.why.reason, item, text) + shifted(words, misfit)
-    return told + HIDDEN[misfit.hidden]
+        told = of_item(misfit.code, misfit.why.reason, item, text)
+    return told + shifted(words, misfit) + HIDDEN[misfit.hidden]
 
 
 def told_of_first(command: str, word: str, misfit: Misfit) -> str:
@@ -80,45 +80,28 @@ def told_of_first(command: str, word: str, misfit: Misfit) -> str:
     if reason == "comment":
         told = "a comment begins with '#' as the first byte of its line, and here a space or a tab stands before it"
     elif reason == "elsewhere":
-        told = elsewhere(command, word, misfit.why.data)
+        option = ", whose option --agents says how many agents there are" * ((command, word) == ("serve", "agents"))
+        other = f"{quoted(word)} begins a line of {either(misfit.why.data)}"
+        told = f"{other}, and this is a script of {command}{option}"
     elif reason == "unknown":
-        told = unknown(command, word, misfit)
+        told = unknown("begins no line", word, misfit, [*lines])
     else:
         told = Of(misfit.why, word).text()
     return told + (f"{', and' if reason == 'stands-above' else ';'} {is_due}" if due and reason != "blank" else "")
 
 
-def elsewhere(command: str, word: str, commands: list[str]) -> str:
-    """What is told of a first word with which lines of other commands begin."""
-    is_option = (command, word) == ("serve", "agents")
-    option = ", whose option --agents says how many agents there are" if is_option else ""
-    return f"{quoted(word)} begins a line of {either(commands)}, and this is a script of {command}{option}"
-
-
-def likest(word: str, known: list[str], fits: list[str]) -> str | None:
-    """Of the known words like this one the first that fits, else the likest."""
-    near = nearest(word, known)
-    return next((other for other in near if other in fits), near[0] if near else None)
-
-
-def unknown(command: str, word: str, misfit: Misfit) -> str:
-    """What is told of a first word with which no line begins."""
-    known = list(forms.lines_of(command))
-    near = likest(word, known, misfit.instead)
-    if misfit.before and near not in misfit.instead:
-        return f"{quoted(word)} begins no line; perhaps {either(map(quoted, misfit.before))} is missing before it"
-    return f"{quoted(word)} begins no line; " + (f"{quoted(near)} is near" if near else f"{either(known)} do")
-
-
-def no_operation(word: str, misfit: Misfit) -> str:
-    """What is told of a word that is no operation, where one is due."""
-    near = likest(word, list(OPERATIONS), misfit.instead)
-    told = f"{quoted(word)} is no operation; "
-    if near and not word.startswith("/"):
-        return f"{told}{quoted(near)} is near"
-    if misfit.before or word.startswith("/"):
-        return f"{told}perhaps {either(misfit.before or OPERATIONS)} is missing before it"
-    return f"{told}{either(OPERATIONS)} are"
+def unknown(why: str, word: str, misfit: Misfit, known: list[str]) -> str:
+    """What is told of a word that is none of those known, which begin lines or are operations."""
+    is_line, told, near = misfit.expected == "LINE", f"{quoted(word)} {why}; ", nearest(word, known)
+    # of the known words like this one the first that fits, else the likest
+    like = next((other for other in near if other in misfit.instead), near[0] if near else None)
+    is_near = like in misfit.instead or not misfit.before if is_line else not word.startswith("/")
+    if like and is_near:
+        return f"{told}{quoted(like)} is near"
+    if misfit.before or not is_line and word.startswith("/"):
+        before = map(quoted, misfit.before) if is_line else misfit.before or known
+        return f"{told}perhaps {either(before)} is missing before it"
+    return f"{told}{either(known)} {'do' if is_line else 'are'}"
 
 
 def shifted(words: list[str], misfit: Misfit) -> str:
@@ -130,9 +113,8 @@ def shifted(words: list[str], misfit: Misfit) -> str:
     if not misfit.shift:
         return ""
     others = either(quoted(words[int(number) - 1]) for number in misfit.shift[-4:])
-    if misfit.expected == "END":
-        return f", or {others} is"
-    return f"; perhaps a word is too many: without {others} the line has its form"
+    too_many = f"; perhaps a word is too many: without {others} the line has its form"
+    return f", or {others} is" if misfit.expected == "END" else too_many
 
 
 def window(line: str, start: int, end: int) -> list[str]:
@@ -157,10 +139,9 @@ def not_found(name: str, lines: list[str], number: int, code: str, now: Found) -
     if number > len(lines) + 1:
         return ["", f"{name} has no line {number}. Was it changed since?"]
     line = lines[number - 1] if number <= len(lines) else ""
+    is_now = "The line is right as it is now." if number <= len(lines) else ""
     if now.misfit:
         is_now = f"What is wrong with it now is {now.misfit.code}: {told_of(now.command, line, now.misfit)}."
-    else:
-        is_now = "The line is right as it is now." if number <= len(lines) else ""
     return ["", f"{name} has no fault {code} in line {number}. {is_now} Was it changed since?".replace("  ", " ")]
 
 
@@ -169,9 +150,8 @@ def of_script(name: str, text: str, number: int, code: str, command: str | None 
     likest one is the one sought only where no line above has a fault of that command.
     """
     lines = lines_of(text)
-    found = whys.in_script(text, lines, number, command)
-    first = found[0]
-    may_be = [one for one in found if one is first or not one.above]
+    first, *others = whys.in_script(text, lines, number, command)
+    may_be = [first, *(one for one in others if not one.above)]
     of = next((one for one in may_be if one.misfit and one.misfit.code == code), first)
     misfit = of.misfit if of.misfit and of.misfit.code == code else None
     line = lines[number - 1] if number <= len(lines) else ""

@@ -57,35 +57,25 @@ def meant(place: str, word: str) -> str:
         return f"{text}: the mode of the list {','.join(entries)}"
     if place == "HEX" and word != "-":
         plain = bytes.fromhex(word).decode("latin1")
-        return (
-            f"{text}: the text {plain}"
-            if plain.isprintable() and plain.isascii()
-            else f"{text}: {len(word) // 2} bytes"
-        )
+        is_text = plain.isprintable() and plain.isascii()
+        return f"{text}: the text {plain}" if is_text else f"{text}: {len(plain)} bytes"
     if place == "VOTES":
         fields, r, w = word.split("/")
-        shares = ", ".join(
-            f"{field} of server {server}" for server, field in enumerate(fields.split(",")) if field != "-"
-        )
-        return f"VOTES: {shares}; a read collects {r}, and a write {w}"
+        shares = [f"{field} of server {server}" for server, field in enumerate(fields.split(",")) if field != "-"]
+        return f"VOTES: {', '.join(shares)}; a read collects {r}, and a write {w}"
     return text
-
-
-def rows_of(places: list[str], given: list[str]) -> list[tuple[str, str]]:
-    """Words with what each means, up to the end of a line or of an operation."""
-    return [(word, meant(place, word)) for place, word in zip(places, given)]
 
 
 def told_words(form: list[str], given: list[str]) -> list[tuple[str, str]]:
     """The words of a line behind its first one, with what each means."""
     plain = [place for place in form if place != "OPERATIONS"]
-    rows = rows_of(plain, given[: len(plain)])
+    rows = [(word, meant(place, word)) for place, word in zip(plain, given)]
     rest, count = given[len(plain) :], 1
     while rest and len(plain) < len(form):
         end = rest.index(";") if ";" in rest else len(rest)
-        verb = rest[0]
-        rows.append((verb, f"operation {count}: {forms.OPERATIONS[verb].does}"))
-        rows += rows_of(forms.OPERATIONS[verb].places.split(), rest[1:end])
+        operation = forms.OPERATIONS[rest[0]]
+        rows.append((operation.word, f"operation {count}: {operation.does}"))
+        rows += [(word, meant(place, word)) for place, word in zip(operation.places.split(), rest[1:end])]
         rows += [(";", "and in the same transaction")] if end < len(rest) else []
         rest, count = rest[end + 1 :], count + 1
     return rows
@@ -134,10 +124,8 @@ def one_word(word: str) -> str | None:
     for line in forms.LINES:
         if line.word == word:
             lines.setdefault((line.form(), line.does), []).append(f"`{line.command}`")
-    told += [
-        filled(f"{form}: a line of a script of {either(of, 'and')}: {said}.")
-        for (form, said), of in lines.items()
-    ]
+    for (form, said), of in lines.items():
+        told.append(filled(f"{form}: a line of a script of {either(of, 'and')}: {said}."))
     if word in forms.OPERATIONS:
         told.append(filled(f"{forms.OPERATIONS[word].form()}: an operation: {forms.OPERATIONS[word].does}."))
     return "\n\n".join(told) or None

@@ -9,11 +9,11 @@ import typing
 
 from common import console, numbers, quoted
 from explain import denials, faults, refusals
-from trace import events, lines
+from trace import events, json_events, lines
 from trace.paths import Paths
 
-OUTCOME = re.compile(r"(\d+)\.(\d+) (\d+) (answered|denied|refused|undecided|swept)\b ?(.*)")
-AUDITED = re.compile(r"t (\d+) uid (\d+) op (\d+) suite (\d+) wants (\S+) by (\S+)")
+OUTCOME = re.compile(r"(\d+)\.(\d+) \d+ ((?:answered|denied|refused|undecided|swept)\b.*)")
+AUDITED = re.compile(r"t (\d+) uid \d+ (op \d+ suite \d+ wants \S+ by \S+)")
 WANTED = {
     "--x": "search it, to go on to what is in it",
     "-wx": "write and search it, to make or drop a name there",
@@ -21,8 +21,6 @@ WANTED = {
 }
 # Of so many servers and operations it is told one by one.
 FEW = 8
-
-
 # What of a request or a reply may be long, and is told by nothing here.
 LONG = ("parts", "names", "bytes")
 
@@ -126,6 +124,10 @@ class Played:
     def home(self, job: Job) -> int:
         return numbers.home(job.agent, job.count, len(self.servers))
 
+    def decided_before(self, job: Job) -> list[int]:
+        """The transactions that were decided before a job's, or all where that was not."""
+        return self.decided[: self.decided.index(job.t)] if job.t in self.decided else self.decided
+
     def down_since(self, server: int, at: int) -> int | None:
         """The line of the script with which a server crashed that is down at a moment."""
         turn = next((turn for turn in reversed(self.turns.get(server, [])) if turn[0] < at), None)
@@ -150,63 +152,63 @@ def played(script: bytes, name: str) -> Played:
 
 # ---- why a job ended so
 
-def made(job: Job, replies: str) -> typing.Iterator[str]:
+
+class Ended(typing.NamedTuple):
+    """How a job of a run ended, with its parts as `trace --json` tells them; the script, and its line that ended it."""
+
+    run: Played
+    job: Job
+    how: dict[str, typing.Any]
+    script: str
+    number: int
+
+    def since(self, server: int) -> int | None:
+        """The line of the script with which a server crashed that was down as the job ended."""
+        return self.run.down_since(server, self.job.ended or 0)
+
+
+def made(end: Ended) -> typing.Iterator[str]:
     """Each operation of an answered transaction with its reply."""
-    told = replies.split("; ")
-    for place, (operation, reply) in enumerate(zip(job.operations, told), 1):
-        number = re.fullmatch(r"made (\d+)", reply)
-        what = f"{numbers.OPERATIONS} * {job.t} + {place}: operation {place} of transaction {job.t}"
-        why = f", which is {what}" if number else ""
-        if place <= FEW:
-            yield f"Operation {place}, `{operation}`: {reply}{why}."
+    for place, (operation, reply) in enumerate(zip(end.job.operations[:FEW], end.how["replies"]), 1):
+        what = f"{numbers.OPERATIONS} * {end.job.t} + {place}: operation {place} of transaction {end.job.t}"
+        why = f", which is {what}" if reply.startswith("made ") else ""
+        yield f"Operation {place}, `{operation}`: {reply}{why}."
 
 
-def denied(run: Played, job: Job, rest: str, script: str) -> typing.Iterator[str]:
+def denied(end: Ended) -> typing.Iterator[str]:
     """Which operation was denied where, and how the list came to that."""
-    found = denials.DENIED.match(rest)
-    if not found:
-        return
-    place, suite, wanted, decider = int(found[1]), int(found[2]), found[3], found[4]
-    path = run.path(suite)
-    wants = f"had to {WANTED[wanted]}" if wanted in WANTED else f"wanted {wanted} of it"
+    run, job, how, place = end.run, end.job, end.how, end.how["op"]
+    path = run.path(how["suite"])
+    wants = f"had to {WANTED[how['wants']]}" if how["wants"] in WANTED else f"wanted {how['wants']} of it"
     yield f"Operation {place}, `{job.operations[place - 1]}`, came to {path}, and {wants}."
-    before = run.decided[: run.decided.index(job.t)] if job.t in run.decided else []
-    jobs = [run.jobs[t].asked() for t in before]
-    yield from denials.told(script, jobs, job.asked(), place, path.split(" (")[0], decider)
+    jobs = [run.jobs[t].asked() for t in run.decided_before(job)]
+    yield from denials.told(end.script, jobs, job.asked(), denials.Denied(place, path.split(" (")[0], how["by"]))
 
 
-def short_of_votes(run: Played, job: Job, rest: str) -> typing.Iterator[str]:
-    """Which servers with a vote were down."""
-    found = re.match(r"U1 suite (\d+) got (\d+) of (\d+)", rest)
-    if not found:
-        return
-    suite = int(found[1])
-    yield f"It wanted {found[3]} votes of {run.path(suite)}, and had {found[2]}."
-    last = {one.server: one for one in job.requests if one.is_for_lock(suite)}
-    for server, one in sorted(last.items()):
-        since, says = run.down_since(server, one.at), one.reply["says"]
+def short_of_votes(end: Ended) -> typing.Iterator[str]:
+    """Which servers with a vote were down; and where the votes were up all the same."""
+    suite, asked = end.how["suite"], [one for one in end.job.requests if one.is_for_lock(end.how["suite"])]
+    yield f"It wanted {end.how['of']} votes of {end.run.path(suite)}, and had {end.how['got']}."
+    for server, one in sorted({one.server: one for one in asked}.items()):
+        since, says = end.run.down_since(server, one.at), one.reply["says"]
         if says == "down":
             yield f"Server {server} has a vote, and was down, since line {since}: `return {server}` brings it back."
         elif says == "busy":
             yield f"Server {server} has a vote, and a lock of transaction {one.reply['holder']} was in the way there."
         else:
             yield f"Server {server} gave its vote."
+    yield from lost_votes(end, not any(one.asked.get("mode") == "exclusive" for one in asked))
 
 
-def lost_votes(run: Played, job: Job, script: str, number: int) -> typing.Iterator[str]:
+def lost_votes(end: Ended, is_read: bool) -> typing.Iterator[str]:
     """Where the votes were up all the same, once this line is played: nobody who was asked knew of it."""
     from votes import votes
-    found = re.search(r"U1 suite (\d+)", job.ending)
-    part = "".join(f"{line}\n" for line in faults.lines_of(script)[:number])
-    if not found or job.ended is None:
-        return
+    part = "".join(f"{line}\n" for line in faults.lines_of(end.script)[: end.number])
     try:
-        suite = votes.left_by(part.encode("latin1")).suites.get(int(found[1]))
+        suite = votes.left_by(part.encode("latin1")).suites.get(end.how["suite"])
     except console.Stop:
         return
-    down = frozenset(server for server in range(len(run.servers)) if run.down_since(server, job.ended) is not None)
-    asked = (one.asked for one in job.requests if one.is_for_lock(int(found[1])))
-    is_read = not any(request.get("mode") == "exclusive" for request in asked)
+    down = frozenset(server for server in range(len(end.run.servers)) if end.since(server) is not None)
     if suite and suite.is_up(down, is_read):
         yield (
             f"Its votes are {suite.newest().text()} by then, and enough of them are up: they were moved, and of the"
@@ -214,123 +216,109 @@ def lost_votes(run: Played, job: Job, script: str, number: int) -> typing.Iterat
         )
 
 
-def in_the_way(run: Played, job: Job, rest: str) -> typing.Iterator[str]:
+def in_the_way(end: Ended) -> typing.Iterator[str]:
     """Who was in the way, and how that ends."""
-    found = re.match(r"U2 server (\d+) holder (\d+)", rest)
-    if not found or job.ended is None:
-        return
-    server, holder = int(found[1]), run.jobs.get(int(found[2]))
+    job, server, holder = end.job, end.how["server"], end.run.jobs.get(end.how["holder"])
     if not holder:
         return
     yield f"The holder, transaction {holder.t}, is {holder.name()}: {holder.about()}."
     if holder.ended is not None and holder.ended < job.ended:
-        yield (f"That job has ended ({holder.ending}), and left a lock at server {server}, which could not be told: "
-               f"`sweep {job.agent} {server}` ends it.")
-        return
-    home = run.home(holder)
-    since = run.down_since(home, job.ended)
-    before = [one for one in holder.requests if one.server == server and one.at < job.ended]
-    is_prepared = any(one.asks("prepare", holder.t) for one in before)
-    going_on = f"If agent {holder.agent} goes on (`run {holder.agent}`), it ends by itself."
-    if is_prepared and since is not None:
         yield (
-            f"It is prepared at server {server}, and its home, server {home}, is down since line {since}. Nobody can"
-            f" tell how it ends, and no sweep ends it, before server {home} is back: `return {home}`, then `sweep"
-            f" {job.agent} {server}`."
+            f"That job has ended ({holder.ending}), and left a lock at server {server}, which could not be told: "
+            f"`sweep {job.agent} {server}` ends it."
         )
-    elif is_prepared:
+        return
+    home, going_on = end.run.home(holder), f"If agent {holder.agent} goes on (`run {holder.agent}`), it ends by itself."
+    since = end.since(home)
+    before = [one for one in holder.requests if one.server == server and one.at < job.ended]
+    if not any(one.asks("prepare", holder.t) for one in before):
+        yield (
+            f"It is not prepared at server {server}. {going_on} If it has stopped for good, `sweep"
+            f" {job.agent} {server}` breaks its locks there."
+        )
+    elif since is None:
         yield (
             f"It is prepared at server {server}; its home, server {home}, is up. {going_on} If it has stopped for good,"
             f" `sweep {job.agent} {server}` ends it as its home decided."
         )
     else:
         yield (
-            f"It is not prepared at server {server}. {going_on} If it has stopped for good, `sweep"
-            f" {job.agent} {server}` breaks its locks there."
+            f"It is prepared at server {server}, and its home, server {home}, is down since line {since}. Nobody can"
+            f" tell how it ends, and no sweep ends it, before server {home} is back: `return {home}`, then `sweep"
+            f" {job.agent} {server}`."
         )
 
 
-def lock_lost(run: Played, job: Job, rest: str) -> typing.Iterator[str]:
+def lock_lost(end: Ended) -> typing.Iterator[str]:
     """How a server lost a lock of the job."""
-    found = re.match(r"U3 server (\d+)", rest)
-    if not found or job.ended is None:
-        return
-    server = int(found[1])
-    for at, is_up, number in run.turns.get(server, []):
+    job, server = end.job, end.how["server"]
+    for at, is_up, number in end.run.turns.get(server, []):
         if job.begun < at < job.ended and not is_up:
             yield (
                 f"Server {server} crashed in line {number}, in the middle of the job, and lost the locks that were not"
                 " prepared."
             )
-    for other in run.jobs.values():
+    for other in end.run.jobs.values():
         for one in other.requests:
             if one.server == server and one.asks("break", job.t) and job.begun < one.at < job.ended:
                 yield f"The sweep of {other.name()} ({other.about()}) broke its lock at server {server}."
                 return
 
 
-def aborted(run: Played, job: Job) -> typing.Iterator[str]:
+def aborted(end: Ended) -> typing.Iterator[str]:
     """Which sweep had the transaction aborted."""
-    for other in run.jobs.values():
-        if any(one.asks("resolve", job.t) and one.reply.get("verdict") == "aborted" for one in other.requests):
+    for other in end.run.jobs.values():
+        if any(one.asks("resolve", end.job.t) and one.reply.get("verdict") == "aborted" for one in other.requests):
             yield (
-                f"The sweep of {other.name()} ({other.about()}) asked its home, server {run.home(job)}, which had no"
-                " decision by then: so it is aborted for good."
+                f"The sweep of {other.name()} ({other.about()}) asked its home, server {end.run.home(end.job)}, which"
+                " had no decision by then: so it is aborted for good."
             )
             return
 
 
-def home_down(run: Played, job: Job) -> typing.Iterator[str]:
+def home_down(end: Ended) -> typing.Iterator[str]:
     """Which server its home is, and why."""
-    home = run.home(job)
-    since = run.down_since(home, job.ended or 0)
+    job, home, count = end.job, end.run.home(end.job), len(end.run.servers)
     yield (
-        f"Its home is server {home}: ({job.agent} + {job.count}) mod {len(run.servers)}, the number of the agent and"
+        f"Its home is server {home}: ({job.agent} + {job.count}) mod {count}, the number of the agent and"
         " that of the job together, modulo the number of servers."
     )
-    if since is not None:
-        yield f"Server {home} is down, since line {since}."
-    count = len(run.servers)
+    if end.since(home) is not None:
+        yield f"Server {home} is down, since line {end.since(home)}."
     tries = ((turn, numbers.home(job.agent, job.count + turn, count)) for turn in range(1, count + 1))
-    is_up = next(((turn, one) for turn, one in tries if run.down_since(one, job.ended or 0) is None), None)
-    if is_up and is_up[0] == 1:
-        yield f"Begun again at once, it is job {job.count + 1}, whose home is server {is_up[1]}, which was up then."
-    elif is_up:
+    turn, is_up = next(((turn, one) for turn, one in tries if end.since(one) is None), (0, home))
+    if turn == 1:
+        yield f"Begun again at once, it is job {job.count + 1}, whose home is server {is_up}, which was up then."
+    elif turn:
         yield (
-            f"Begun again at once, job {job.count + 1} has a home that was down then, too; job {job.count + is_up[0]}"
-            f" is the first whose home was up, server {is_up[1]}."
+            f"Begun again at once, job {job.count + 1} has a home that was down then, too; job {job.count + turn}"
+            f" is the first whose home was up, server {is_up}."
         )
     else:
         yield "No server was up then, so no transaction can be decided before one is back."
 
 
-def why_refused(run: Played, job: Job, rest: str) -> typing.Iterator[str]:
+def why_refused(end: Ended) -> typing.Iterator[str]:
     """Which operation was refused, and what was there and what was not."""
-    code, place = rest.split()[0], int((rest.split()[2:] or ["0"])[0])
-    if place:
-        yield f"Operation {place} is `{job.operations[place - 1]}`."
-    until = run.decided.index(job.t) if job.t in run.decided else len(run.decided)
-    before = [run.jobs[t].operations for t in run.decided[:until] if run.jobs[t].verdict == "answered"]
-    told = refusals.why(code, place, job.operations, before)
-    if told:
-        yield f"{told}."
+    jobs = (end.run.jobs[t] for t in end.run.decided_before(end.job))
+    before = [job.operations for job in jobs if job.verdict == "answered"]
+    yield from refusals.told(end.how["code"], end.how.get("op", 0), end.job.operations, before)
 
 
-def how_full(run: Played, rest: str) -> typing.Iterator[str]:
+def how_full(end: Ended) -> typing.Iterator[str]:
     """How many files and folders a server has at the end, which was full."""
-    found = re.match(r"U6 server (\d+)", rest)
-    if not found:
-        return
-    count = sum(copy["kind"] != "absent" for copy in run.servers[int(found[1])]["copies"])
+    server = end.how["server"]
+    count = sum(copy["kind"] != "absent" for copy in end.run.servers[server]["copies"])
     yield (
-        f"Server {found[1]} has {count:,} files and folders at the end of the script, dropped ones among them, and has"
+        f"Server {server} has {count:,} files and folders at the end of the script, dropped ones among them, and has"
         " room for 4,096."
     )
 
 
-def swept(job: Job) -> typing.Iterator[str]:
+def swept(end: Ended) -> typing.Iterator[str]:
     """Whose transactions a sweep met."""
-    for one in job.requests:
+    told = dict[str, None]()
+    for one in end.job.requests:
         if one.asked.get("asks") in ("resolve", "break"):
             t, said = one.asked["t"], events.word_of(one.reply.get("verdict", one.reply["says"]))
             what = (
@@ -339,29 +327,15 @@ def swept(job: Job) -> typing.Iterator[str]:
                 else "a lock of it that was not prepared is broken"
             )
             agent, number = numbers.job_of(t)
-            yield f"Transaction {t}, job {number} of agent {agent}: {what}."
+            told[f"Transaction {t}, job {number} of agent {agent}: {what}."] = None
+    yield from told
 
 
-def why(run: Played, job: Job, how: str, rest: str, script: str, number: int) -> typing.Iterator[str]:
-    """The sentences about how a job ended."""
-    code = rest.split(" ", 1)[0]
-    if how == "answered":
-        yield from made(job, rest)
-    elif how == "denied":
-        yield from denied(run, job, rest, script)
-    elif how == "refused":
-        yield from why_refused(run, job, rest)
-    elif how == "swept":
-        yield from dict.fromkeys(swept(job))
-    elif code == "U1":
-        yield from short_of_votes(run, job, rest)
-        yield from lost_votes(run, job, script, number)
-    elif code in ("U2", "U3"):
-        yield from (in_the_way if code == "U2" else lock_lost)(run, job, rest)
-    elif code in ("U4", "U5"):
-        yield from (aborted if code == "U4" else home_down)(run, job)
-    elif code == "U6":
-        yield from how_full(run, rest)
+# What tells how a job ended, by that, or by its code.
+WHY = {
+    "answered": made, "denied": denied, "refused": why_refused, "swept": swept, "U1": short_of_votes, "U2": in_the_way,
+    "U3": lock_lost, "U4": aborted, "U5": home_down, "U6": how_full, "U7": lambda _: iter(()),
+}
 
 
 def found_line(run: Played, text: str, name: str) -> tuple[str, int]:
@@ -406,14 +380,16 @@ def of_run(run: Played, text: str, script: str, name: str) -> list[str]:
     line, number = found_line(run, text, name)
     outcome, audited = OUTCOME.match(line), AUDITED.match(line)
     if audited:
-        job = run.jobs[int(audited[1])]
-        return [f"Transaction {job.t} is {job.name()}: {job.about()}.",
-                *denied(run, job, line.partition(f" uid {audited[2]} ")[2], script)]
+        job, how = run.jobs[int(audited[1])], json_events.ended(f"denied {audited[2]}")
+        told = denied(Ended(run, job, how, script, number))
+        return [f"Transaction {job.t} is {job.name()}: {job.about()}.", *told]
     if not outcome:
         return [f"It is printed by line {number} of {name}."]
     job = run.jobs[numbers.transaction(int(outcome[1]), int(outcome[2]))]
-    told = [f"It is printed by line {number} of {name}, and was begun by {job.about()}."]
-    return told + list(why(run, job, outcome[4], outcome[5], script, number))
+    how = json_events.ended(outcome[3])
+    why = WHY[how["code"] if how["how"] == "undecided" else how["how"]]
+    told = why(Ended(run, job, how, script, number))
+    return [f"It is printed by line {number} of {name}, and was begun by {job.about()}.", *told]
 
 
 def of_line(text: str, script: bytes, name: str) -> list[str]:

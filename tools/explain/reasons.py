@@ -1,4 +1,6 @@
 """The sentences about words that do not fit: one for each reason that the command `forms` tells."""
+from collections.abc import Callable
+
 from common import forms
 from explain.misfits import Why
 from common.quoted import LONG, either, letters, nearest, quoted, short
@@ -23,23 +25,79 @@ MARKS = {
 }
 # Reasons of which faults.py tells, with what it knows of the script.
 LAID_OUT = ("elsewhere", "unknown", "names-below", "behind-header", "few")
-# The sentence of each reason, with the parts of `Of` and the data of the reason.
-SENTENCES = {
-    "due": "{of.stands}",
-    "line-ends": "the line ends, and {of.due}",
-    "operation-ends": "the operation ends, and {of.due}",
+class Of:
+    """What a sentence is about: a reason, the word, its place, and the first word of the form; with its parts."""
+
+    def __init__(self, why: Why, word: str = "", place: str = "", first: str = "") -> None:
+        self.why, self.data, self.word, self.place, self.first = why, why.data, word, place, first
+        self.quoted, self.part, self.short = quoted(word), quoted(why.part), short(why.part)
+
+    def text(self) -> str:
+        if self.place == "OPERATION" and self.why.reason in OPERATION_ENDS:
+            return f"an operation is due {OPERATION_ENDS[self.why.reason]}"
+        says = SENTENCES[self.why.reason]
+        return says.format(*self.data, of=self) if isinstance(says, str) else says(self)
+
+
+def due(of: Of) -> str:
+    means = forms.PLACES[of.place].means if of.place in forms.PLACES else ""
+    return DUE.get(of.place, f"{of.place} is due") + (f", {means}" if means else "")
+
+
+def stands(of: Of) -> str:
+    parts = ": of each server, and behind slashes what a read and a write collect" * (of.place == "VOTES")
+    return f"{of.quoted} is a word too many" if of.place == "END" else f"{of.quoted} stands where {due(of)}{parts}"
+
+
+def above(of: Of) -> str:
+    most = MOST.get(of.data[0] if of.place == "VOTES" else of.place)
+    return f"{of.short} is above {of.data[0]}{f', {most}' if most else ''}"
+
+
+def many(of: Of) -> str:
+    count, most = map(int, of.data)
+    if of.place == "GIDS":
+        return f"{count} groups; there are at most {most}, the user's own and {most - 1} others"
+    what = f"votes of {count} servers" if of.place == "VOTES" else f"there are {count} entries"
+    return f"{what}; there are at most {most}"
+
+
+def no_digits(of: Of) -> str:
+    as_digits = f"; as a text it is {of.word.encode('latin1').hex()}" if len(of.word) <= LONG / 2 else ""
+    return f"{of.quoted} is not made of hexadecimal digits{as_digits}"
+
+
+def no_name_byte(of: Of) -> str:
+    is_escape = of.why.part == "\\" and of.place != "NAME"
+    escape = "; a name with an escape, as getfacl prints it, is not read: write its number" if is_escape else ""
+    return f"{of.part} stands in no name{escape}"
+
+
+def unknown_keyword(of: Of) -> str:
+    near = nearest(of.why.part, KINDS)
+    like = f"{quoted(near[0])} is near" if near else "user, group, mask and other are"
+    return f"{of.part} is no kind of entry; {like}"
+
+
+# The sentence of each reason, with the parts of `Of` and the data of the reason, or what makes it of these.
+SENTENCES: dict[str, str | Callable[[Of], str]] = {
+    "due": stands,
+    "line-ends": lambda of: f"the line ends, and {due(of)}",
+    "operation-ends": lambda of: f"the operation ends, and {due(of)}",
     "comment": "a comment stands in a line of its own, which begins with '#'",
     "semicolon": "{of.part} has a semicolon; between operations it stands alone, with a space on each side",
     # numbers
-    "no-number": "{of.stands}",
-    "named": "{of.stands} (the number of {of.quoted} is {0}; names are for lists)",
+    "no-number": stands,
+    "named": lambda of: f"{stands(of)} (the number of {of.quoted} is {of.data[0]}; names are for lists)",
     "below": "{of.short} is below {0}",
-    "above": "{of.short} is above {0}{of.most}",
+    "above": above,
     "gap": "{of.quoted} has a comma without a number beside it; there are no spaces among the groups",
-    "many": "{of.many}",
+    "many": many,
     # votes
-    "no-votes": "{of.stands}",
-    "no-share": "{of.no_share}",
+    "no-votes": stands,
+    "no-share": lambda of: f"{of.part} is neither a server's votes nor -"
+    if of.why.part
+    else f"{of.quoted} has nothing where a server's votes or - are due",
     "no-collected": "{of.part} stands where it is due how many votes are collected",
     "no-server": "{of.quoted} lists no server",
     "beyond-last": "{of.quoted} lists server {0}, and the last one is {1}",
@@ -52,35 +110,38 @@ SENTENCES = {
     " be above N",
     # bytes and names
     "odd-digits": "{of.quoted} has {0} hexadecimal digits, and two make a byte",
-    "no-digits": "{of.quoted} is not made of hexadecimal digits{of.as_digits}",
+    "no-digits": no_digits,
     "length": "the name has {0} bytes, and at most {1} are allowed",
-    "no-name-byte": "{of.part} stands in no name{of.escape}",
+    "no-name-byte": no_name_byte,
     "all-digits": "{of.quoted} is a number, and stands where a name is due",
     "taken": "{of.first} {of.quoted} has a number already, by line {0}",
     # items of lists
     "no-keyword": "a word is due before the first colon: user, group, mask or other",
-    "unknown-keyword": "{of.part} is no kind of entry; {of.near}",
+    "unknown-keyword": unknown_keyword,
     "no-colon": "a colon is missing behind {of.part}",
-    "one-colon": "a colon is missing: {0[0]}::{of.short} is the entry of {of.kind}",
+    "one-colon": lambda of: f"a colon is missing: {of.data[0][0]}::{of.short} is the entry of {OF_KIND[of.data[0]]}",
     "colons": "it has {0} colons, and an entry has two",
-    "names-somebody": "the entry of {of.kind} names nobody, and here it names {of.part}",
-    "digit": "{of.part} is a digit; in a list permissions are letters: {of.letters}",
-    "no-permission": "{of.part} is no permission; r, w and x are{of.capital}",
+    "names-somebody": lambda of: f"the entry of {OF_KIND[of.data[0]]} names nobody, and here it names {of.part}",
+    "digit": lambda of: f"{of.part} is a digit; in a list permissions are letters: {letters(int(of.why.part))}",
+    "no-permission": lambda of: f"{of.part} is no permission; r, w and x are"
+    + (", and X is of setfacl alone" if of.why.part == "X" else ""),
     "twice": "{of.part} stands twice",
     "hyphens": "there are more than three hyphens",
     "marked-nothing": "behind {of.part} an entry is due, as d:u::rwx",
     "nobody": "no {0} is named {of.part}",
-    "of-other-kind": "no {0} is named {of.part}; a {of.other} is",
+    "of-other-kind": lambda of: f"no {of.data[0]} is named {of.part}; a"
+    f" {'user' if of.data[0] == 'group' else 'group'} is",
     # lists
     "carriage-return": "{of.quoted} has a carriage return",
     "no-list": "{of.quoted} stands where a list is due, with colons in it",
     "no-mode": "{of.quoted} is no mode, which has three octal digits",
-    "lacks": "no item is the entry of {of.kind}, {0[0]}::",
-    "doubled": "items {of.items} are of {of.whom}",
+    "lacks": lambda of: f"no item is the entry of {OF_KIND[of.data[0]]}, {of.data[0][0]}::",
+    "doubled": lambda of: f"items {either(of.data[1:], 'and')} are of "
+    + (f"{of.data[0]} {of.short}" if of.why.part else OF_KIND[of.data[0]]),
     "unmasked": "item {0} names somebody, and no item is a mask, m::",
     # first words
     "blank": "the line has spaces or tabs alone; an empty line has nothing at all",
-    "mark": "the file begins with {of.mark}, which an editor put there; save it as plain ASCII",
+    "mark": lambda of: f"the file begins with {MARKS[of.why.part]}, which an editor put there; save it as plain ASCII",
     "word-missing": "the word with which the line begins is missing before {of.quoted}",
     "stands-above": "it stands above, in line {0}",
     "again": "{of.quoted} stands in line {0} already",
@@ -89,92 +150,6 @@ SENTENCES = {
     "old-entries": "the root folder's list has {0} entries, and form 1 holds {1}",
     "old-server": "the votes list server {0}, and form 1 holds those below {1}",
 }
-
-
-class Of:
-    """What a sentence is about: a reason, the word, its place, and the first word of the form; with its parts."""
-
-    def __init__(self, why: Why, word: str = "", place: str = "", first: str = "") -> None:
-        self.why, self.word, self.place, self.first = why, word, place, first
-        self.quoted, self.part, self.short = quoted(word), quoted(why.part), short(why.part)
-
-    def text(self) -> str:
-        if self.place == "OPERATION" and self.why.reason in OPERATION_ENDS:
-            return f"an operation is due {OPERATION_ENDS[self.why.reason]}"
-        return SENTENCES[self.why.reason].format(*self.why.data, of=self)
-
-    @property
-    def due(self) -> str:
-        means = forms.PLACES[self.place].means if self.place in forms.PLACES else ""
-        return DUE.get(self.place, f"{self.place} is due") + (f", {means}" if means else "")
-
-    @property
-    def stands(self) -> str:
-        parts = ": of each server, and behind slashes what a read and a write collect" * (self.place == "VOTES")
-        if self.place == "END":
-            return f"{self.quoted} is a word too many"
-        return f"{self.quoted} stands where {self.due}{parts}"
-
-    @property
-    def most(self) -> str:
-        most = MOST.get(self.why.data[0] if self.place == "VOTES" else self.place)
-        return f", {most}" if most else ""
-
-    @property
-    def many(self) -> str:
-        count, most = map(int, self.why.data)
-        if self.place == "GIDS":
-            return f"{count} groups; there are at most {most}, the user's own and {most - 1} others"
-        what = f"votes of {count} servers" if self.place == "VOTES" else f"there are {count} entries"
-        return f"{what}; there are at most {most}"
-
-    @property
-    def no_share(self) -> str:
-        if self.why.part:
-            return f"{self.part} is neither a server's votes nor -"
-        return f"{self.quoted} has nothing where a server's votes or - are due"
-
-    @property
-    def as_digits(self) -> str:
-        return f"; as a text it is {self.word.encode('latin1').hex()}" if len(self.word) <= LONG / 2 else ""
-
-    @property
-    def escape(self) -> str:
-        is_one = self.why.part == "\\" and self.place != "NAME"
-        return "; a name with an escape, as getfacl prints it, is not read: write its number" if is_one else ""
-
-    @property
-    def near(self) -> str:
-        known = nearest(self.why.part, KINDS)
-        return f"{quoted(known[0])} is near" if known else "user, group, mask and other are"
-
-    @property
-    def kind(self) -> str:
-        return OF_KIND[self.why.data[0]]
-
-    @property
-    def other(self) -> str:
-        return "user" if self.why.data[0] == "group" else "group"
-
-    @property
-    def letters(self) -> str:
-        return letters(int(self.why.part))
-
-    @property
-    def capital(self) -> str:
-        return ", and X is of setfacl alone" if self.why.part == "X" else ""
-
-    @property
-    def items(self) -> str:
-        return either(self.why.data[1:], "and")
-
-    @property
-    def whom(self) -> str:
-        return f"{self.why.data[0]} {self.short}" if self.why.part else self.kind
-
-    @property
-    def mark(self) -> str:
-        return MARKS[self.why.part]
 
 
 def of_item(code: str, reason: str, item: str, told: str) -> str:

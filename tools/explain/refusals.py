@@ -64,6 +64,15 @@ def of_path(verb: str, path: str) -> str:
     return f"{path} is no path"
 
 
+def told(code: str, place: int, operations: list[str], before: typing.Iterable[list[str]]) -> typing.Iterator[str]:
+    """The sentences about the operation that was refused, or about the transaction, where the place is 0."""
+    if place:
+        yield f"Operation {place} is `{operations[place - 1]}`."
+    reason = why(code, place, operations, before)
+    if reason:
+        yield f"{reason}."
+
+
 def why(code: str, place: int, operations: list[str], before: typing.Iterable[list[str]]) -> str | None:
     """Why an operation was refused, by the operations of the transactions that were answered before."""
     if code == "F10" or place == 0:

@@ -9,6 +9,7 @@ from explain import denials, faults, refusals
 
 OUTCOME = re.compile(r"(\d+) (?:(\d+) )?(answered|denied|refused|undecided|swept)\b ?(.*)")
 REFUSED = re.compile(r"(F\d+) op (\d+)")
+DENIED = re.compile(r"op (\d+) suite (\d+) wants (\S+) by (\S+)")
 # What `serve` says of all jobs together.
 WHOLE = re.compile(r"certified \d+ steps$|mismatch$")
 # The places of the user, the groups and the first operation in the words of a job.
@@ -21,7 +22,6 @@ class Job(typing.NamedTuple):
     number: int
     words: list[str]
     operations: list[str]
-    script: str
     first: int
 
     def asked(self) -> denials.Asked:
@@ -37,7 +37,7 @@ def jobs_of(script: str, language: str) -> list[Job]:
     for number, line in enumerate(faults.lines_of(script), 1):
         words = line.split()
         if words[:1] == ["do"] or (words[:1] == ["sweep"] and language == "serve"):
-            found.append(Job(number, words, " ".join(words[first:]).split(" ; "), script, first))
+            found.append(Job(number, words, " ".join(words[first:]).split(" ; "), first))
     return found
 
 
@@ -61,18 +61,6 @@ def whole(script: str, jobs: list[Job], name: str) -> str:
     )
 
 
-def why_refused(found: re.Match[str], job: Job, before: list[Job], language: str) -> list[str]:
-    """Which operation was refused; for `table`, which does one after the other, also what was there."""
-    code, place = found[1], int(found[2])
-    told = [f"Operation {place} is `{job.operations[place - 1]}`."] if place else []
-    if language == "table":
-        answers = denials.answers(job.script, [one.asked() for one in before])
-        those = [one.operations for one, answer in zip(before, answers) if answer.split()[1:2] == ["answered"]]
-        why = refusals.why(code, place, job.operations, those)
-        told += [f"{why}."] if why else []
-    return told
-
-
 def of_line(text: str, script: str, name: str, language: str) -> list[str]:
     """What is told of a line that a script of this command printed."""
     outcome, jobs = OUTCOME.match(text), jobs_of(script, language)
@@ -85,15 +73,18 @@ def of_line(text: str, script: str, name: str, language: str) -> list[str]:
     if outcome[3] == "answered":
         told += [f"Operation {place}, `{operation}`: {reply}."
                  for place, (operation, reply) in enumerate(zip(job.operations, rest.split("; ")), 1)]
-    refusal = REFUSED.match(rest)
-    if outcome[3] == "refused" and refusal:
-        told += why_refused(refusal, job, jobs[: int(outcome[1])], language)
-    found = denials.DENIED.match(rest)
+    # `table` does one after the other, so what was there is known
+    before = [one.asked() for one in jobs[: int(outcome[1])]] if language == "table" else []
+    refused, found = REFUSED.match(rest), DENIED.match(rest)
+    if outcome[3] == "refused" and refused:
+        answers = denials.answers(script, before) if before else []
+        those = [one.operations for one, answer in zip(before, answers) if answer.split()[1:2] == ["answered"]]
+        sentences = [*refusals.told(refused[1], int(refused[2]), job.operations, those)]
+        told += sentences if language == "table" else sentences[:1]
     if found:
         place, suite = int(found[1]), int(found[2])
         path = path_of(suite, jobs) if language == "table" else f"suite {suite}"
         told.append(f"Operation {place}, `{job.operations[place - 1]}`, came to {path}, and wanted {found[3]} there.")
         if language == "table":
-            before = [one.asked() for one in jobs[: int(outcome[1])]]
-            told += denials.told(script, before, job.asked(), place, path, found[4])
+            told += denials.told(script, before, job.asked(), denials.Denied(place, path, found[4]))
     return told

@@ -8,7 +8,7 @@ import os
 import select
 import subprocess
 
-from common import console, of_kit
+from common import console, crates, of_kit
 from front import choose, sources
 
 PROGRAM = sources.PROGRAM
@@ -74,7 +74,7 @@ def prove(top: str, needs: dict[str, list[str]], teller: console.Teller) -> tupl
 
 def prove_laws(teller: console.Teller) -> tuple[str, str] | None:
     """Proves the laws of all runs: the program uses some, and a caller may want the others."""
-    each = (prove(top, sources.crates_below(top), teller) for top in LAWS)
+    each = (prove(top, crates.below([top], crates.listed()), teller) for top in LAWS)
     return next((failed for failed in each if failed), None)
 
 

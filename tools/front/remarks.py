@@ -7,6 +7,7 @@ did nothing, and which agents still have a job at its end. The program plays the
 can matter.
 """
 import os
+import pathlib
 import re
 import select
 import stat
@@ -119,8 +120,7 @@ def silent(lines: list[Line], printed: str) -> typing.Iterator[str]:
 
 def told_of(program: str, path: str) -> list[str]:
     """What is told of a script that the program played to its end."""
-    with open(path, "rb") as file:
-        script = file.read()
+    script = pathlib.Path(path).read_bytes()
     lines = lines_of(script.decode("latin1"))
     if not may_be_silent(lines):
         return []

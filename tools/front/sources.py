@@ -3,9 +3,11 @@
 Tests, wrong bodies and documents stand in other folders or crates, and are no part of it. A file is read again only
 where its size or its times have changed since its sum was kept.
 """
+import contextlib
 import hashlib
 import json
 import os
+import pathlib
 import re
 import shutil
 import subprocess
@@ -44,20 +46,6 @@ def told(text: str, ending: str) -> str:
     return "\n".join(line for line in map(str.rstrip, text.split("\n")) if line)
 
 
-def crates_below(program: str) -> dict[str, list[str]]:
-    """The crates that a program stands on, each with those that it names, the program last."""
-    needs, found = crates.listed(), dict[str, list[str]]()
-
-    def visit(name: str) -> None:
-        if name in needs and name not in found:
-            for need in needs[name]:
-                visit(need)
-            found[name] = needs[name]
-
-    visit(program)
-    return found
-
-
 def files_of(folder: str) -> typing.Iterator[str]:
     """The sources in this folder of the repository, by their paths from its top."""
     for place, _, names in os.walk(os.path.join(TOP, folder)):
@@ -68,11 +56,9 @@ def files_of(folder: str) -> typing.Iterator[str]:
 
 def read_json(path: str) -> dict[str, typing.Any]:
     """What was kept in this file; nothing where it is not there, or was broken off."""
-    try:
-        with open(path, encoding="utf-8") as file:
-            return json.load(file)
-    except (OSError, ValueError):
-        return {}
+    with contextlib.suppress(OSError, ValueError):
+        return json.loads(pathlib.Path(path).read_text(encoding="utf-8"))
+    return {}
 
 
 def write_whole(path: str, text: str, written: int | None = None) -> None:
@@ -109,11 +95,9 @@ def time_of_files() -> int | None:
 
 def sum_of(path: str) -> str | None:
     """The sum of a file's bytes; nothing where it is not there."""
-    try:
-        with open(path, "rb") as file:
-            return hashlib.sha256(file.read()).hexdigest()
-    except OSError:
-        return None
+    with contextlib.suppress(OSError):
+        return hashlib.sha256(pathlib.Path(path).read_bytes()).hexdigest()
+    return None
 
 
 class Kit:
@@ -149,7 +133,7 @@ class Sources:
     """The sources as they are now: the sums of the code, of code and claims, and of all with the proofs."""
 
     def __init__(self) -> None:
-        self.crates = crates_below(PROGRAM)
+        self.crates = crates.below([PROGRAM], crates.listed())
         names = [*self.crates, FIRST]
         self.sums = self.summed([f"crates/{name}/{part}" for name in names for part in (CODE, CLAIMS, PROOFS)])
         self.files = sorted(self.sums)

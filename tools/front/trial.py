@@ -7,7 +7,10 @@ C libraries.
 Where a kit does it otherwise, no module is found. Then this file as a command stands in for the program: it runs
 `rt try -- WORD...` on its standard input, which compiles the program each time.
 """
+import contextlib
 import os
+import pathlib
+import shutil
 import subprocess
 import sys
 import tempfile
@@ -18,14 +21,11 @@ from front import sources
 
 MODULE = "module.bc"
 # As the kit itself compiles: these keep passes of clang out that are known to err.
-CAREFUL = [
-    "-no-trap-after-noreturn",
-    "-trap-unreachable",
-    "-no-x86-call-frame-opt",
-    "-disable-machine-licm",
-    "-disable-postra-machine-licm",
-]
-CAREFUL = [word for option in [*CAREFUL, "-sink-common-insts=false"] for word in ("-mllvm", option)]
+PASSES = (
+    "-no-trap-after-noreturn -trap-unreachable -no-x86-call-frame-opt -disable-machine-licm"
+    " -disable-postra-machine-licm -sink-common-insts=false"
+)
+CAREFUL = [word for option in PASSES.split() for word in ("-mllvm", option)]
 LEVEL = "-O1"
 
 
@@ -52,13 +52,9 @@ def is_whole(module: bytes, program: str) -> bool:
 
 def found(scratch: str, program: str) -> bytes | None:
     """The program's module below this folder, once it is whole."""
-    for place, _, names in os.walk(scratch):
-        if MODULE in names:
-            try:
-                with open(os.path.join(place, MODULE), "rb") as file:
-                    module = file.read()
-            except FileNotFoundError:
-                continue
+    for path in pathlib.Path(scratch).rglob(MODULE):
+        with contextlib.suppress(FileNotFoundError):
+            module = path.read_bytes()
             if is_whole(module, program):
                 return module
     return None
@@ -94,8 +90,7 @@ def module_once(folder: str, name: str, tick: typing.Callable[[], None], program
             raise console.Stop(f"{console.ended('rt', status)}; the next time it is tried again")
         raise console.Stop("the sources do not compile:\n" + console.tail(said).rstrip())
     path = os.path.join(folder, MODULE)
-    with open(path, "wb") as file:
-        file.write(module)
+    pathlib.Path(path).write_bytes(module)
     return path
 
 
@@ -139,8 +134,7 @@ def build(target: str, tick: typing.Callable[[], None], name: str = sources.PROG
         link += ["--toolchain", os.path.join(home, "toolchain"), "-o", program, made, *libraries()]
         done(link, folder, tick)
         done([program, "--help"], folder, tick)
-        with open(program, "rb") as built, open(target, "wb") as kept:
-            kept.write(built.read())
+        shutil.copyfile(program, target)
     os.chmod(target, 0o755)
 
 

@@ -46,30 +46,21 @@ def lanes() -> int | None:
     return found if found > 1 else None
 
 
-def keep(times: gate_times.Times) -> None:
-    """Keeps the times where that was asked for."""
+def tell(times: gate_times.Times, begun: float, number: int | None) -> None:
+    """Tells what each step cost, and keeps it where that was asked for. Nothing fails where it costs too much."""
     path = os.environ.get("SUITES_GATE_TIMES")
     try:
         if path:
             gate_times.write(times, path)
     except OSError as error:
         print(f"warning: the times were not kept in {path}: {error.strerror}")
-
-
-def tell(times: gate_times.Times, begun: float, number: int | None) -> None:
-    """Tells what each step cost. Nothing fails where it costs too much."""
-    keep(times)
     spent = resource.getrusage(resource.RUSAGE_CHILDREN)
     whole, provers = spent.ru_utime + spent.ru_stime, sum(sum(row.values()) for row in times.values())
     side = f" with {number} checks side by side" if number else ""
     print(
-        (
-            f"the gate took {(time.monotonic() - begun) / 60:.1f} minutes{side}, and of processor time"
-            f" {provers / 60:.0f} minutes for proofs"
-        ),
-        end="",
+        f"the gate took {(time.monotonic() - begun) / 60:.1f} minutes{side}, and of processor time"
+        f" {provers / 60:.0f} minutes for proofs and {max(whole - provers, 0) / 60:.0f} for all else:"
     )
-    print(f" and {max(whole - provers, 0) / 60:.0f} for all else:")
     for line in gate_times.lines(times, gate_times.bounds()) if times else ["  nothing had to be proved"]:
         print(line)
 

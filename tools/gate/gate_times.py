@@ -11,9 +11,11 @@ was run in pieces, the most counts that a step of a crate took in one of them: a
 at it again, and one that was broken off had a part.
 """
 import argparse
+import contextlib
 import csv
 import glob
 import os
+import pathlib
 import threading
 import typing
 
@@ -64,11 +66,9 @@ class Watch(threading.Thread):
     def look(self) -> None:
         found: dict[int, Prover] = {}
         for name in filter(str.isdigit, os.listdir("/proc")):
-            try:
+            with contextlib.suppress(OSError, ValueError, IndexError):
                 found[int(name)] = prover(int(name))
-            except (OSError, ValueError, IndexError):
-                pass
-        for number, (words, folder, _, _, _) in found.items():
+        for number in found:
             first, copy = number, number
             while copy in found:
                 # (a prover with more than one job forks copies of itself)
@@ -93,28 +93,26 @@ class Watch(threading.Thread):
         return found
 
 
+def fields_of(number: int) -> list[str]:
+    """What the kernel tells of a process, from its state on."""
+    return pathlib.Path(f"/proc/{number}/stat").read_text().rpartition(")")[2].split()
+
+
 def prover(number: int) -> Prover:
     """Of a prover its words, folder, parent and begin, with its own seconds and those of its copies that have ended."""
-    with open(f"/proc/{number}/cmdline", "rb") as file:
-        words = file.read().decode("utf-8", "replace").split("\0")
+    words = pathlib.Path(f"/proc/{number}/cmdline").read_text(errors="replace").split("\0")
     if os.path.basename(words[0]) != "rattle" or "--crate-name" not in words:
         raise ValueError
-    with open(f"/proc/{number}/stat") as file:
-        fields = file.read().rpartition(")")[2].split()
+    fields = fields_of(number)
     own, ended = (sum(int(it) for it in fields[at : at + 2]) / TICKS for at in (11, 13))
     return words, os.readlink(f"/proc/{number}/cwd"), int(fields[1]), fields[19], (own, ended)
 
 
 def is_below(number: int, above: int) -> bool:
-    try:
-        while number > 1:
-            if number == above:
-                return True
-            with open(f"/proc/{number}/stat") as file:
-                number = int(file.read().rpartition(")")[2].split()[1])
-    except (OSError, ValueError, IndexError):
-        pass
-    return False
+    with contextlib.suppress(OSError, ValueError, IndexError):
+        while number not in (above, 1, 0):
+            number = int(fields_of(number)[1])
+    return number == above
 
 
 def rows_of(times: Times) -> list[Row]:

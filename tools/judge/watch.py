@@ -42,8 +42,7 @@ class Watch:
 
     def tell(self, *lines: str) -> None:
         """Prints lines at once, in the place of what was said last."""
-        if self.progress.last:
-            self.progress.teller.clear()
+        self.progress.clear()
         sys.stdout.write("".join(f"{line}\n" for line in lines))
         sys.stdout.flush()
 

@@ -1,5 +1,7 @@
 """What a changed entry would do: who gains and who loses. Nothing is changed."""
+import functools
 import grp
+import operator
 import os
 import pwd
 from typing import Iterable, Iterator, NamedTuple, Optional
@@ -14,6 +16,7 @@ from may.lists import (
 from may.people import Caller, number, shortened
 from may.saying import SAYER
 from may.scripts import interpreters, ways_of
+from may.telling import short
 from may.trees import Tree
 from may.ways import EXECUTE, Place, Way, unread
 
@@ -102,11 +105,8 @@ class Changed:
         entries = None if place.is_link else self.lists.get((place.device, place.inode))
         return place if entries is None else after(place, entries)
 
-    def way(self, found: Way) -> Way:
-        return found._replace(places=[self.place(one) for one in found.places])
-
     def ways(self, found: Iterable[Way]) -> list[Way]:
-        return [self.way(one) for one in found]
+        return [one._replace(places=[*map(self.place, one.places)]) for one in found]
 
 
 class Powers(NamedTuple):
@@ -125,29 +125,24 @@ def powers(crowd: Crowd, to: Seen, place: Place, programs: list[Way]) -> Powers:
     return Powers(found, to)
 
 
+def gained(before: Powers, later: Powers) -> dict[int, int]:
+    """Who gains each permission."""
+    return {bit: later.of_bit[bit].may & ~before.of_bit[bit].may for _, bit in BITS}
+
+
 def moved(before: Powers, later: Powers) -> list[tuple[str, int]]:
     """Who gains what and who loses what: words, and people."""
-    found: dict[tuple[str, int], int] = {}
-    everybody = 0
-    for bit in before.of_bit:
-        everybody |= before.of_bit[bit].may | later.of_bit[bit].may
-    for word, less, more in (("gains", before, later), ("loses", later, before)):
-        left = {bit: more.of_bit[bit].may & ~less.of_bit[bit].may for bit in more.of_bit}
+    found = []
+    for word, more in (("gains", gained(before, later)), ("loses", gained(later, before))):
         for perms in range(1, 8):
-            who = everybody
-            for _, bit in BITS:
-                who &= left.get(bit, 0) if perms & bit else ~left.get(bit, 0)
-            if who:
-                found[word, perms] = who
-    return sorted((f"{word} {letters(perms).replace('-', '')}", who) for (word, perms), who in found.items())
+            who = functools.reduce(operator.and_, (one if perms & bit else ~one for bit, one in more.items()))
+            found += [(f"{word} {short(perms)}", who)] if who else []
+    return sorted(found)
 
 
-def unjudged_of(*given: Powers) -> Iterator[tuple[int, str]]:
-    """Of which permissions it is not judged who has them, and why."""
-    for powers_of in given:
-        for bit, seen in powers_of.of_bit.items():
-            if seen.unjudged:
-                yield bit, seen.why
+def unjudged_of(*given: Powers) -> list[str]:
+    """Why it is not judged who has some permissions."""
+    return [seen.why for one in given for seen in one.of_bit.values() if seen.unjudged]
 
 
 def effect(crowd: Crowd, ways: list[Way], entries: List) -> tuple[Powers, Powers]:
@@ -183,8 +178,7 @@ def tell_change(callers: list[Caller], change: Change, path: str) -> list[str]:
 
 def moved_lines(crowd: Crowd, before: Powers, later: Powers) -> list[str]:
     """Who gains and who loses, a line each. Raises `Unread` where that is not judged."""
-    why = next((why for _, why in unjudged_of(before, later)), None)
-    if why:
+    for why in unjudged_of(before, later):
         raise Unread(why)
     told = [f"  {what}: {people(crowd.chosen(who))}" for what, who in moved(before, later)]
     return told or ["  nobody gains or loses"]
@@ -250,28 +244,20 @@ def tell_change_under(callers: list[Caller], change: Change, top: str) -> Iterat
         for row in (tree.rows[at] for at in part):
             if row.target is None and (change.is_put or change.is_in(row.place.entries)):
                 changed.add(row.place, change.of(row.place.entries))
-    reach = Reach(crowd, tree)
-    later = Reach(crowd, tree)
-    later.above, later.to_top = (crowd.along(changed.way(one).places) for one in (tree.above, tree.to_top))
+    reach, later = Reach(crowd, tree), Reach(crowd, tree, changed.place)
     count, why = 0, list(tree.unread)
-    rows = [row._replace(place=changed.place(row.place)) for row in tree.rows]
     for at, row in enumerate(tree.rows):
         if at % 2000 == 0:
-            some = range(at, min(at + 2000, len(rows)))
-            reach.ask(some, (bit for _, bit in BITS))
-            crowd.ask((rows[one].place, bit) for one in some if rows[one].target is None for _, bit in BITS)
+            for one in (reach, later):
+                one.ask(range(at, min(at + 2000, len(tree.rows))), [bit for _, bit in BITS])
             SAYER.at(at)
-        to = reach.add(at)
-        above = later.above if row.folder is None else later.within[row.folder]
-        is_folder = row.target is None and row.place.is_folder
-        later.within.append(above.then(crowd.at(rows[at].place, EXECUTE)) if is_folder else above)
-        then = later.to_top if row.folder is None else above
+        to, then = reach.add(at), later.add(at)
         if row.target is not None:
             continue
         programs = interpreters(Way(row.path, [row.place])) if row.place.is_file else []
         old = powers(crowd, to, row.place, programs)
-        new = powers(crowd, then, rows[at].place, changed.ways(programs))
-        why += [text for _, text in unjudged_of(old, new)][:1]
+        new = powers(crowd, then, changed.place(row.place), changed.ways(programs))
+        why += unjudged_of(old, new)[:1]
         told = [f"{what}: {people(crowd.chosen(who))}" for what, who in moved(old, new)]
         if told:
             count += 1

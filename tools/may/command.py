@@ -1,56 +1,10 @@
-"""./suites may [-v] [--groups GID[,GROUP..]] USER WANTED PATH..
-       ./suites may [-v] [--groups GID[,GROUP..]] USER create|delete PATH..
-       ./suites may [--groups GID[,GROUP..]] USER WANTED --under TREE [--denied] [-0]
-       ./suites may --who WANTED|create|delete PATH..
-       ./suites may [-v] --who WANTED --under TREE
-       ./suites may --without ENTRY | --with ENTRY  [--no-mask] PATH.. | --under TREE
-       ./suites may --lint TREE
-
-Tells whether a user may read, write or execute files of this machine, and if not, which entry of which list decides.
-USER is a name or a number, WANTED letters of r, w and x. Each folder on the way wants x (search) too. The answers are
-those of the proved access check of acl(5): a line a folder, up to the first that denies, and last a sentence.
-
-    create, delete  whether the user may make the name, or take it away: its folder decides
-    --under TREE    each path of a tree that the user may, by which entry; links in it are told and not followed
-    --denied        those that the user may not
-    -0              the paths alone, each ended by a byte 0, as `xargs -0` takes them
-    --who           everybody with an account here who may, by which entry, and who is stopped where; with --under
-                    how many paths of a tree each may, and some of them (-v: all)
-    --without ENTRY who gains and who loses if the entry (user:lisa, g:200, m) went; nothing is changed. With --under
-                    the same of each list in a tree that has it
-    --with ENTRY    the same if it (user:lisa:rw, g:200:r, m::rx, o::) came, or took the place of the one there; with
-                    d: before it, of a folder's default list: what new files there will have
-    --no-mask       the mask stays; else it is computed as setfacl does
-    --lint TREE     what does not do what it says, with the command that would mend it, where that harms nobody
-    -v              shows each list, with what its mask leaves of an entry
-    --groups LIST   the user has these groups, its own first, and not those that the system gives
-    --              what stands behind it is no option
-
-Exit status: 0 all is granted, 1 something is denied or to be mended, 2 a bad command, 3 a path or a list cannot be read
-(run it as root) or is not judged here, 4 out of memory, 6 a write failed. --under, --who, --without and --with end with
-0 where they could tell all.
-
-What Linux does otherwise than lists say is told, and the status is that of Linux. Looked at beside lists:
-  - a list with an empty mask, which Linux looks at for the owner alone; and root, whom Linux lets pass
-  - mounts: ro, noexec, nodev, nosymfollow; immutable and append-only files; x of what is no file or folder
-  - snapshots of btrfs that are read-only; sticky folders, of `delete`; interpreters of scripts, and theirs
-  - links that end a path and lie in a sticky folder (fs.protected_symlinks)
-Told as not judged: idmapped mounts, FUSE, NFS, SMB and other file systems whose servers decide, what is of processes or
-settings in /proc, all of /proc with hidepid, /sys and its kind, which names are made in /proc, /dev/pts and their kind,
-subvolumes of btrfs that are taken away, lists of more than 128 entries or with a user twice, paths that grow beyond
-4,095 bytes through links.
-Not looked at: capabilities of others than root, root without capabilities, security modules, user namespaces, mounts of
-other namespaces, quotas, locks, swap files, ELF interpreters, binfmt_misc, rules of devices, and what is opened to be
-made where it is there already (fs.protected_regular, fs.protected_fifos).
-A path that does not begin with / is taken from the current folder, whose own path is looked at too. Names with
-line ends, quotes, backslashes or bytes that are no text are shown as `ls -Q` does.
-"""
+"""./suites may: who may what on this machine; help/may.txt tells all of it."""
 import argparse
 import errno
 import io
 import os
 import sys
-from typing import Iterator, NoReturn, Optional
+from typing import Iterable, Iterator, NoReturn, Optional
 
 from common import console
 from may import changes, everybody, lint, names, people, telling, under
@@ -61,6 +15,8 @@ from may.trees import Tree
 from may.ways import WRITE
 
 VERBS = (names.CREATE, names.DELETE)
+# What is asked where no user is.
+FORMS = ("who", "without", "with", "lint")
 
 
 class Parser(argparse.ArgumentParser):
@@ -74,39 +30,31 @@ def wanted_of(word: str) -> int:
     return sum(bit for letter, bit in BITS if letter in word)
 
 
-def read(words: list[str]) -> argparse.Namespace:
-    """The command line; what it asks for is `form`. Behind `--` nothing is an option."""
-    place = words.index("--") if "--" in words else len(words)
+def read(words: list[str], more: list[str]) -> argparse.Namespace:
+    """The command line; what it asks for is `form`, by what word. Behind `--` nothing is an option."""
     parser = Parser(add_help=False, allow_abbrev=False)
-    parser.add_argument("-h", "--help", action="store_true")
-    for flag in ("-v", "--denied", "-0", "--no-mask"):
-        parser.add_argument(flag, action="store_true", dest=flag.strip("-").replace("-", "_").replace("0", "zero"))
+    for flag in ("-v", "--denied", "--no-mask"):
+        parser.add_argument(flag, action="store_true")
+    parser.add_argument("-0", action="store_true", dest="zero")
     parser.add_argument("--groups")
     parser.add_argument("--under")
     forms = parser.add_mutually_exclusive_group()
-    for form in ("--who", "--without", "--with", "--lint"):
-        forms.add_argument(form, dest=form.strip("-").replace("with", "with_") if form == "--with" else form.strip("-"))
+    for form in FORMS:
+        forms.add_argument(f"--{form}")
     parser.add_argument("words", nargs="*")
-    if {"-h", "--help"} & set(words[:place]):
-        return argparse.Namespace(help=True)
-    given = parser.parse_intermixed_args(words[:place])
-    given.words += words[place + 1 :]
-    given.form = next(
-        (form for form in ("who", "without", "with_", "lint") if getattr(given, form) is not None), "user"
-    )
-    check(given)
-    return given
-
-
-def check(given: argparse.Namespace) -> None:
+    given = parser.parse_intermixed_args(words)
+    given.words += more
+    given.form = next((form for form in FORMS if getattr(given, form) is not None), "user")
+    given.word = getattr(given, given.form, "")
     if given.form != "user" and (given.groups is not None or given.denied or given.zero):
         raise Bad("--groups, --denied and -0 go with a user")
     if given.form == "lint" and given.under is not None:
         raise Bad("--lint takes one tree")
-    if given.no_mask and given.form not in ("without", "with_"):
+    if given.no_mask and given.form not in ("without", "with"):
         raise Bad("--no-mask goes with --without and --with")
     if (given.denied or given.zero) and given.under is None:
         raise Bad("--denied and -0 go with --under")
+    return given
 
 
 def tell(told: Judged) -> int:
@@ -150,9 +98,11 @@ def of_tree(given: argparse.Namespace) -> int:
     for part in tree.parts():
         for row in asked.rows(part):
             unjudged += row.may is None and not row.is_link
-            if given.zero and row.may is not None and row.may != given.denied:
+            if row.may == given.denied or given.zero and row.may is None:
+                continue
+            if given.zero:
                 SAYER.raw(os.fsencode(row.path) + b"\0")
-            elif not given.zero and (row.may is None or row.may != given.denied):
+            else:
                 SAYER.line(f"{quoted(row.path)}  {row.by}")
         SAYER.at(len(tree.rows))
     return ended(tree.unread, unjudged)
@@ -160,40 +110,39 @@ def of_tree(given: argparse.Namespace) -> int:
 
 def ended(unread: list[str], unjudged: int) -> int:
     """Tells what could not be told, and the status of it."""
-    for why in unread:
+    more = [f"{len(unread)} could not be read, {unjudged} are not judged"] if unread or unjudged else []
+    return unread_of([*unread, *more])
+
+
+def unread_of(whys: list[str]) -> int:
+    for why in whys:
         SAYER.error(why)
-    if unread or unjudged:
-        SAYER.error(f"{len(unread)} could not be read, {unjudged} are not judged")
-    return UNREAD if unread or unjudged else GRANTED
+    return UNREAD if whys else GRANTED
 
 
 def of_many(given: argparse.Namespace) -> int:
     """Who may what under a tree, or who gains and loses there?"""
     if given.words:
         raise Bad("--under takes one tree")
-    callers = people.accounts()
-    change = change_of(given)
-    if change is None:
-        if given.who in VERBS:
-            raise Bad(f"--who {given.who} takes paths")
-        lines, unread = everybody.tell_who_under(callers, wanted_of(given.who), given.under, given.v)
-        for one in lines:
-            SAYER.line(one)
-        for why in unread:
-            SAYER.error(why)
-        return UNREAD if unread else GRANTED
-    if change.is_default:
+    callers, change, unread = people.accounts(), change_of(given), list[str]()
+    if change is None and given.word in VERBS:
+        raise Bad(f"--who {given.word} takes paths")
+    if change and change.is_default:
         raise Bad("entries with d: say what new files will be: without --under")
-    for one in changes.tell_change_under(callers, change, given.under):
+    lines: Iterable[str]
+    if change:
+        lines = changes.tell_change_under(callers, change, given.under)
+    else:
+        lines, unread = everybody.tell_who_under(callers, wanted_of(given.word), given.under, given.v)
+    for one in lines:
         SAYER.line(one)
-    return GRANTED
+    return unread_of(unread)
 
 
 def change_of(given: argparse.Namespace) -> Optional[changes.Change]:
     if given.form == "who":
         return None
-    is_put = given.form == "with_"
-    return changes.read_change(given.with_ if is_put else given.without, is_put, not given.no_mask)
+    return changes.read_change(given.word, given.form == "with", not given.no_mask)
 
 
 def of_paths(given: argparse.Namespace) -> int:
@@ -203,15 +152,15 @@ def of_paths(given: argparse.Namespace) -> int:
     if not given.words:
         raise Bad("a path is told")
     callers, status, change = people.accounts(), GRANTED, change_of(given)
-    verb = given.who if given.who in VERBS else ""
-    wanted = 0 if change or verb else wanted_of(given.who)
+    verb = given.word if given.word in VERBS else ""
+    wanted = 0 if change or verb else wanted_of(given.word)
     for path in given.words:
         try:
-            for one in (
-                changes.tell_change(callers, change, path)
-                if change
-                else everybody.tell_who(callers, wanted, path, verb)
-            ):
+            if change:
+                told = changes.tell_change(callers, change, path)
+            else:
+                told = everybody.tell_who(callers, wanted, path, verb)
+            for one in told:
                 SAYER.line(one)
         except (Bad, Unread) as error:
             SAYER.error(str(error) if isinstance(error, Unread) else f"{quoted(path)}: {error}")
@@ -223,7 +172,7 @@ def of_lint(given: argparse.Namespace) -> int:
     """What under a tree is to be mended?"""
     if given.words:
         raise Bad("--lint takes one tree")
-    found, status = lint.Lint(given.lint), GRANTED
+    found, status = lint.Lint(given.word), GRANTED
     for one in found.lines():
         SAYER.line(one)
         status = DENIED
@@ -231,14 +180,13 @@ def of_lint(given: argparse.Namespace) -> int:
 
 
 def answered(words: list[str]) -> int:
-    given = read(words)
-    if given.help:
-        print((__doc__ or "").strip())
-    elif given.form == "user":
+    place = words.index("--") if "--" in words else len(words)
+    if {"-h", "--help"} & set(words[:place]):
+        return console.print_help("may")
+    given = read(words[:place], words[place + 1 :])
+    if given.form == "user":
         return of_user(given) if given.under is None else of_tree(given)
-    else:
-        return of_lint(given) if given.form == "lint" else of_paths(given)
-    return GRANTED
+    return of_lint(given) if given.form == "lint" else of_paths(given)
 
 
 def run(words: list[str]) -> int:
@@ -248,9 +196,7 @@ def run(words: list[str]) -> int:
         SAYER.error(f"{error} (./suites may --help)")
         return BAD
     except Unread as error:
-        for line in str(error).split("\n"):
-            SAYER.error(line)
-        return UNREAD
+        return unread_of(str(error).split("\n"))
     except OSError as error:
         if error.errno in (*console.NOT_WRITTEN, errno.ENOMEM) and not error.filename:
             raise

@@ -1,7 +1,7 @@
 """Many people at once: whom of them Linux lets, as bits of a number, of which the first account is the lowest."""
 from __future__ import annotations
 
-from typing import Iterable, Iterator, NamedTuple
+from typing import Iterable, NamedTuple
 
 from may import linux
 from may.lists import GROUP, USER, Unread
@@ -24,10 +24,6 @@ class Seen(NamedTuple):
         return Seen(self.may & other.may, unjudged, self.why or (other.why if unjudged else ""))
 
 
-def split(parts: list[int], chosen: int) -> list[int]:
-    return [piece for part in parts for piece in (part & chosen, part & ~chosen) if piece]
-
-
 class Crowd:
     """People, and what was asked of them."""
 
@@ -42,12 +38,7 @@ class Crowd:
         self.seen: dict[object, Seen] = {}
 
     def chosen(self, bits: int) -> list[Caller]:
-        found = []
-        while bits:
-            low = bits & -bits
-            found.append(self.callers[low.bit_length() - 1])
-            bits ^= low
-        return found
+        return [caller for at, caller in enumerate(self.callers) if bits >> at & 1]
 
     def first(self, bits: int) -> Caller:
         return self.callers[(bits & -bits).bit_length() - 1]
@@ -62,10 +53,9 @@ class Crowd:
                 users.add(place.folder.st_uid)
                 groups.add(place.folder.st_gid)
         parts = [self.every] if self.every else []
-        for one in users & self.of_user.keys():
-            parts = split(parts, self.of_user[one])
-        for one in groups & self.of_group.keys():
-            parts = split(parts, self.of_group[one])
+        chosen = [own[one] for own, ids in ((self.of_user, users), (self.of_group, groups)) for one in ids & own.keys()]
+        for some in chosen:
+            parts = [piece for part in parts for piece in (part & some, part & ~some) if piece]
         return sorted(parts, key=lambda part: part & -part)
 
     def key(self, place: Place, wanted: int) -> object:
@@ -77,29 +67,17 @@ class Crowd:
     def ask(self, wanted: Iterable[tuple[Place, int]]) -> None:
         """Asks what was not asked yet, all at once."""
         new = {self.key(place, one): (place, one) for place, one in wanted}
-        left = [(key, *new[key], self.parts(new[key][0])) for key in new if key not in self.seen]
-        if not left:
-            return
-        asked = [
-            question(place, self.first(part), one)
-            for _, place, one, parts in left
-            for part in parts
-            if not place.is_link
-        ]
+        left = [(key, *new[key], part) for key in new if key not in self.seen for part in self.parts(new[key][0])]
+        asked = (question(place, self.first(part), one) for _, place, one, part in left if not place.is_link)
         given = iter(answers(asked))
-        for key, place, one, parts in left:
-            self.seen[key] = self.judged(place, one, parts, given)
-
-    def judged(self, place: Place, wanted: int, parts: list[int], given: Iterator[str]) -> Seen:
-        may, unjudged, why = 0, 0, ""
-        for part in parts:
-            answer = "" if place.is_link else next(given)
-            said = linux.of_place(place, self.first(part), answer, wanted)
+        self.seen |= {key: Seen(0) for key in new if key not in self.seen}
+        for key, place, one, part in left:
+            said = linux.of_place(place, self.first(part), "" if place.is_link else next(given), one)
+            seen = self.seen[key]
             if said.grants is None:
-                unjudged, why = unjudged | part, said.why
+                self.seen[key] = seen._replace(unjudged=seen.unjudged | part, why=said.why)
             elif said.grants:
-                may |= part
-        return Seen(may, unjudged, why)
+                self.seen[key] = seen._replace(may=seen.may | part)
 
     def at(self, place: Place, wanted: int = 0) -> Seen:
         """Whom Linux lets at a place."""

@@ -1,9 +1,11 @@
 """Who may? Everybody with an account here, by the entry that grants or denies."""
-from typing import Iterable, Iterator, NamedTuple, Optional
+import collections
+import itertools
+from typing import Callable, Iterable, Iterator, NamedTuple, Optional
 
 from may import linux, names
 from may.crowd import Crowd, Seen
-from may.lists import Unread, entry_text, letters, mask_of, name_of, quoted, who
+from may.lists import Unread, entry_text, letters, name_of, quoted, who
 from may.names import Target
 from may.people import Caller
 from may.program import answers, decider, granting, question
@@ -54,27 +56,6 @@ def by_entry(end: Found) -> str:
     return f" by {entry_text(decider(end.place.entries, end.answer), name_of)}"
 
 
-def granted_by(callers: list[Caller], place: Place) -> list[str]:
-    """By what each caller that is granted may, as a line says it."""
-    asked = [caller for caller in callers if not linux_alone(caller, place)]
-    entries = iter(granting([question(place, caller) for caller in asked]))
-    return [
-        " (Linux lets root pass)"
-        if caller.uid == 0
-        else " (its mask is ---)"
-        if linux_alone(caller, place)
-        else f" by {who(next(entries))}"
-        for caller in callers
-    ]
-
-
-def linux_alone(caller: Caller, place: Place) -> bool:
-    """Whether Linux does not look at the list for this caller."""
-    return caller.uid == 0 or (
-        caller.uid != place.owner and mask_of(place.entries) is not None and not place.mode & 0o070
-    )
-
-
 def people(part: Iterable[Caller]) -> str:
     return ", ".join(quoted(one.name) for one in part)
 
@@ -109,40 +90,39 @@ def tell_who(callers: list[Caller], wanted: int, path: str, verb: str = "") -> l
 
 def lines_of(parts: list[list[Caller]], every: list[Found], last: Place, head: str) -> list[str]:
     """The lines about parts of people, by where the way of each part ends."""
-    may = [at for at, end in enumerate(every) if end.said.grants]
-    by = dict(zip(may, granted_by([parts[at][0] for at in may], last)))
+    # whom Linux lets by the list alone
+    listed = [part[0] for part, end in zip(parts, every) if end.said.grants and not end.said.why]
+    entries = iter(granting([question(last, caller) for caller in listed]))
     grants: dict[str, list[Caller]] = {}
-    stops: dict[str, list[Caller]] = {}
-    for at, (part, end) in enumerate(zip(parts, every)):
-        if at in by:
-            grants.setdefault(by[at], []).extend(part)
+    stops: dict[tuple[str, str], list[Caller]] = {}
+    for part, end in zip(parts, every):
+        if end.said.grants:
+            by = f"({end.said.why.partition(',')[0]})" if end.said.why else f"by {who(next(entries))}"
+            grants.setdefault(by, []).extend(part)
         else:
             where = f"{'denied' if end.place is last else 'stopped'} at {end.place.shown}"
-            stops.setdefault(f"{where}|{by_entry(end)}", []).extend(part)
-    told = "; ".join(f"{people(part)}{why}" for why, part in grants.items())
-    lines = [f"{head}  {told or 'nobody with an account here'}"]
-    for where, part in stops.items():
-        place_told, _, why = where.partition("|")
-        lines.append(f"  {place_told}: {people(part)}{why}")
-    return lines
+            stops.setdefault((where, by_entry(end)), []).extend(part)
+    told = "; ".join(f"{people(part)} {by}" for by, part in grants.items())
+    stopped = [f"  {where}: {people(part)}{why}" for (where, why), part in stops.items()]
+    return [f"{head}  {told or 'nobody with an account here'}", *stopped]
 
 
 # ---- under a tree
 
 
 class Reach:
-    """Whom the folders of a tree let pass to what is in them."""
+    """Whom the folders of a tree let pass to what is in them, as they are or as they would be."""
 
-    def __init__(self, crowd: Crowd, tree: Tree) -> None:
-        self.crowd, self.tree = crowd, tree
-        self.above, self.to_top = crowd.along(tree.above.places), crowd.along(tree.to_top.places)
+    def __init__(self, crowd: Crowd, tree: Tree, place: Callable[[Place], Place] = lambda place: place) -> None:
+        self.crowd, self.tree, self.place = crowd, tree, place
+        self.above, self.to_top = (crowd.along(map(place, way.places)) for way in (tree.above, tree.to_top))
         # of each row whom its folder lets come to it, and whom it lets come to what is in it
         self.to: list[Seen] = []
         self.within: list[Seen] = []
 
     def ask(self, some: range, wanted: Iterable[int]) -> None:
         """Asks at once all that is asked of some rows."""
-        places = [row.place for row in (self.tree.rows[at] for at in some) if row.target is None]
+        places = [self.place(row.place) for row in (self.tree.rows[at] for at in some) if row.target is None]
         searches = [(place, SEARCH) for place in places if place.is_folder]
         self.crowd.ask([*searches, *((place, one) for place in places for one in wanted)])
 
@@ -150,44 +130,29 @@ class Reach:
         """Whom the folders let come to a row, which comes behind those before it."""
         row = self.tree.rows[at]
         above = self.above if row.folder is None else self.within[row.folder]
-        within = above.then(self.crowd.at(row.place, SEARCH)) if row.target is None and row.place.is_folder else above
-        to = self.to_top if row.folder is None else above
-        self.to.append(to)
-        self.within.append(within)
-        return to
+        is_folder = row.target is None and row.place.is_folder
+        self.within.append(above.then(self.crowd.at(self.place(row.place), SEARCH)) if is_folder else above)
+        self.to.append(self.to_top if row.folder is None else above)
+        return self.to[at]
 
 
-class Many:
-    """Who may what of many paths: for each set of people that alone may something the count of paths, and some."""
-
-    def __init__(self, has_all: bool) -> None:
-        self.paths: dict[int, list[str]] = {}
-        self.count: dict[int, int] = {}
-        self.has_all, self.total = has_all, 0
-
-    def add(self, may: int, path: str) -> None:
-        self.total += 1
-        self.count[may] = self.count.get(may, 0) + 1
-        some = self.paths.setdefault(may, [])
-        if self.has_all or len(some) < 3:
-            some.append(path)
-
-    def lines(self, crowd: Crowd, wanted: int) -> Iterator[str]:
-        """A line for the people who may the same paths."""
-        alike: dict[tuple[int, ...], list[Caller]] = {}
-        for at, caller in enumerate(crowd.callers):
-            alike.setdefault(tuple(may for may in self.paths if may >> at & 1), []).append(caller)
-        for sets, part in sorted(alike.items(), key=lambda one: -sum(self.count[may] for may in one[0])):
-            count = sum(self.count[may] for may in sets)
-            some = [quoted(path) for may in sets for path in self.paths[may]][: None if self.has_all else 3]
-            named = f": {', '.join(some)}{', ..' if count > len(some) else ''}" if count else ""
-            yield f"{people(part)}  may {short(wanted)} {count:,} of {self.total:,}{named}"
+def lines_of_many(paths: dict[int, list[str]], crowd: Crowd, wanted: int, most: Optional[int]) -> Iterator[str]:
+    """A line for the people who may the same of many paths, which are told by who alone may something of them."""
+    alike: dict[tuple[int, ...], list[Caller]] = {}
+    for at, caller in enumerate(crowd.callers):
+        alike.setdefault(tuple(may for may in paths if may >> at & 1), []).append(caller)
+    counted = [(sum(len(paths[may]) for may in sets), sets, part) for sets, part in alike.items()]
+    total = sum(map(len, paths.values()))
+    for count, sets, part in sorted(counted, key=lambda one: -one[0]):
+        some = list(map(quoted, itertools.islice((path for may in sets for path in paths[may]), most)))
+        named = f": {', '.join(some)}{', ..' if count > len(some) else ''}" if count else ""
+        yield f"{people(part)}  may {short(wanted)} {count:,} of {total:,}{named}"
 
 
 def tell_who_under(callers: list[Caller], wanted: int, top: str, has_all: bool) -> tuple[list[str], list[str]]:
     """Who may anything under a tree, a line for people who may the same paths, and why some is not judged."""
-    tree, crowd, many, unjudged = Tree(top), Crowd(callers), Many(has_all), dict[str, int]()
-    reach = Reach(crowd, tree)
+    tree, crowd, unjudged = Tree(top), Crowd(callers), collections.Counter[str]()
+    reach, paths = Reach(crowd, tree), collections.defaultdict[int, list[str]](list)
     for part in tree.parts():
         reach.ask(part, [wanted])
         for at in part:
@@ -198,8 +163,8 @@ def tell_who_under(callers: list[Caller], wanted: int, top: str, has_all: bool) 
             if wanted & EXECUTE and row.place.is_file and seen.may:
                 seen = seen.then(crowd.through(interpreters(Way(row.path, [row.place]))))
             if seen.unjudged:
-                unjudged[seen.why] = unjudged.get(seen.why, 0) + 1
-            many.add(seen.may, row.path)
+                unjudged[seen.why] += 1
+            paths[seen.may].append(row.path)
         SAYER.at(len(tree.rows))
     left_out = [f"{why} ({count:,} paths)" if count > 1 else why for why, count in unjudged.items()]
-    return list(many.lines(crowd, wanted)), tree.unread + left_out
+    return list(lines_of_many(paths, crowd, wanted, None if has_all else 3)), tree.unread + left_out

@@ -9,7 +9,7 @@ import stat
 from typing import Iterable, Iterator, NamedTuple, Optional
 
 from may import linux, lists, mounts, people
-from may.changes import Change, Powers, after, effect, unjudged_of
+from may.changes import Change, after, effect, gained, unjudged_of
 from may.crowd import Crowd
 from may.everybody import Reach
 from may.lists import (
@@ -55,10 +55,6 @@ def has_account(tag: int, one: int) -> bool:
         return False
 
 
-def powers_of(given: Powers) -> dict[int, int]:
-    return {bit: seen.may for bit, seen in given.of_bit.items()}
-
-
 class Lint:
     """A tree, the people of this machine, and what is found."""
 
@@ -102,12 +98,11 @@ class Lint:
         except Bad:
             return False
         before, later = effect(self.crowd, mend.ways, entries)
-        if fault(entries) or any(unjudged_of(before, later)):
+        if fault(entries) or unjudged_of(before, later):
             return False
-        old, new = powers_of(before), powers_of(later)
-        gained = [new[bit] & ~old[bit] for bit in old]
-        helps = mend.named == 0 or any(gained)
-        harms = any(one & ~mend.named for one in gained) or any(old[bit] & ~new[bit] for bit in old)
+        more = gained(before, later).values()
+        helps = mend.named == 0 or any(more)
+        harms = any(one & ~mend.named for one in more) or any(gained(later, before).values())
         return helps and not harms
 
     def ask(self, found: Iterable[Finding]) -> None:

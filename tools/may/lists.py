@@ -119,8 +119,7 @@ def fault(entries: List) -> Optional[str]:
         return f"its list has {len(entries)} entries, and lists of up to {MAX_ENTRIES} are judged here"
     for tag, what in ((USER, "user"), (GROUP, "group")):
         ids = [entry.id for entry in entries if entry.tag == tag]
-        twice = next((one for one in ids if ids.count(one) > 1), None) if len(ids) != len(set(ids)) else None
-        if twice is not None:
+        for twice in (one for one in ids if ids.count(one) > 1):
             return f"its list names {what} {twice} twice"
     return None
 

@@ -57,12 +57,11 @@ def target_of(path: str) -> Target:
         return Target(path, found, name, None)
     folder = found.places[-1]
     if not folder.is_folder:
-        end = unread(folder.path, errno.ENOTDIR)
-        return Target(path, found._replace(places=found.places[:-1], end=end), name, None)
-    if len(os.fsencode(name)) > MOST_NAME:
+        found = found._replace(places=found.places[:-1], end=unread(folder.path, errno.ENOTDIR))
+    elif len(os.fsencode(name)) > MOST_NAME:
         end = Unread(f"{quoted(name[:40])}..: {os.strerror(errno.ENAMETOOLONG)}", errno.ENAMETOOLONG)
-        return Target(path, found._replace(end=end), name, None)
-    return Target(path, found, name, there(folder, name))
+        found = found._replace(end=end)
+    return Target(path, found, name, None if found.end else there(folder, name))
 
 
 def no_delete(target: Target, caller: Caller) -> Optional[str]:

@@ -1,23 +1,10 @@
 """Lines as they are found; and on a terminal, from the third second on, how far the work is."""
 import sys
-import time
 
-AFTER, BETWEEN = 2.0, 0.2
+from common import console
 
 
-class Sayer:
-    def __init__(self) -> None:
-        self.begun = time.monotonic()
-        self.next = self.begun + AFTER
-        self.shows, self.is_shown = bool(sys.stderr) and sys.stderr.isatty(), False
-
-    def clear(self) -> None:
-        """Takes the line that changes off the terminal."""
-        if self.is_shown:
-            sys.stderr.write("\r\033[K")
-            sys.stderr.flush()
-            self.is_shown = False
-
+class Sayer(console.Progress):
     def line(self, text: str) -> None:
         self.clear()
         print(text)
@@ -32,15 +19,10 @@ class Sayer:
         self.clear()
         sys.stdout.buffer.write(data)
 
-    def at(self, count: int, what: str = "paths") -> None:
-        """Lets go what was told, and says how many there were so far."""
+    def at(self, count: int) -> None:
+        """Lets go what was told, and says how many paths there were so far."""
         sys.stdout.flush()
-        now = time.monotonic()
-        if self.shows and now >= self.next:
-            self.next = now + BETWEEN
-            sys.stderr.write(f"\r\033[Ksuites: may is at work: {count:,} {what}, {now - self.begun:.0f} s")
-            sys.stderr.flush()
-            self.is_shown = True
+        self.say(f"may is at work: {count:,} paths")
 
 
 SAYER = Sayer()

@@ -44,24 +44,15 @@ class Tree:
         """The same as a part of the ways to what lies below: no link on it is the last name of these."""
         return self.way._replace(places=[place._replace(is_last=False) for place in self.way.places[:-1]])
 
-    def fill(self) -> Iterator[int]:
-        """Reads the tree; answers how many rows there are, once each folder was read."""
-        at = 0
-        while at < len(self.rows):
-            row = self.rows[at]
-            if row.target is None and row.place.is_folder:
-                self.read(at, row)
-                yield len(self.rows)
-            at += 1
-        yield at
-
     def parts(self, size: int = 2000) -> Iterator[range]:
         """Reads the tree; answers its rows in parts of about this many, as they are found."""
         begun = 0
-        for count in self.fill():
-            if count - begun >= size:
-                yield range(begun, count)
-                begun = count
+        for at, row in enumerate(self.rows):
+            if row.target is None and row.place.is_folder:
+                self.read(at, row)
+            if len(self.rows) - begun >= size:
+                yield range(begun, len(self.rows))
+                begun = len(self.rows)
         yield range(begun, len(self.rows))
 
     def read(self, at: int, folder: Row) -> None:

@@ -1,14 +1,4 @@
-"""./suites import DIR [--at PATH] [--servers N] [--votes V]
-
-Prints a script of events that makes the tree of a real folder: files and folders with owners, groups, lists, default
-lists and contents, each made by its owner, and lists set last, from below. What does not fit is told on standard
-error, path by path, and left out: links, devices, names with others than A-Za-z0-9._-, files above 65,536 bytes, more
-than 1,024 names in a folder, paths of more than eight names. Nothing is changed. The status is then 1.
-
-    --at PATH    the tree stands at this path, as /a/b; else it is the root folder, whose owner and list it gives
-    --servers N  so many servers, 3 where nothing is told
-    --votes V    their votes; else each has one, and a majority reads and writes
-"""
+"""./suites import DIR: a real tree as a script of events that makes it; help/import.txt tells all of it."""
 import argparse
 import os
 import re
@@ -98,8 +88,7 @@ def main() -> int:
     read.add_argument("--servers", type=int)
     read.add_argument("--votes")
     if {"--help", "-h"} & set(sys.argv[1:]):
-        print((__doc__ or "").strip())
-        return 0
+        return console.print_help("import")
     given = read.parse_args()
     if not re.fullmatch(r"/|(/[A-Za-z0-9._-]{1,64}){1,8}", given.at):
         read.error("--at is a path, as /a/b")

@@ -11,6 +11,7 @@ gate begins with it.
 """
 import glob
 import os
+import pathlib
 import re
 import typing
 
@@ -41,8 +42,7 @@ UNNAMED = {"Lib.antt", "code.antt"}
 
 
 def content(path: str) -> str:
-    with open(path, encoding="utf-8", errors="replace") as file:
-        return file.read()
+    return pathlib.Path(path).read_text(encoding="utf-8", errors="replace")
 
 
 def files() -> typing.Iterator[str]:
@@ -92,11 +92,8 @@ def is_there(text: str, known: set[str], members: list[set[str]]) -> bool:
 
 def headings(path: str) -> list[str]:
     """The headings of a document; none where it is not there."""
-    return (
-        [line.lstrip("# ") for line in content(path).split("\n") if line.startswith("#")]
-        if os.path.exists(path)
-        else []
-    )
+    lines = content(path).split("\n") if os.path.exists(path) else []
+    return [line.lstrip("# ") for line in lines if line.startswith("#")]
 
 
 def anchor(heading: str) -> str:
@@ -186,16 +183,14 @@ def main() -> int:
         if "/src/" in path:
             members.append(set(re.findall(r"\w+", text)))
             bare.append(words)
-    lost = list(wrong_sums())
+    wrong = [f"{name}:{number}: {what}" for name, number, what in wrong_sums()]
     for path in [*documents(), *pages()]:
         name, there = os.path.relpath(path, TOP), bare if path.endswith(".rt") else members
-        absent = ((number, text) for number, text in quoted(path) if not is_there(text, known, there))
-        lost += [(name, number, f"there is no `{text}`") for number, text in absent]
-        headed = ((number, named) for number, named, is_known in headings_named(path) if not is_known)
-        lost += [(name, number, f"there is no heading {named}") for number, named in headed]
-        lost += [(name, number, what) for number, what in counts_told(path)]
-    for name, number, what in lost:
-        print(f"{name}:{number}: {what}")
-    wrong = [f"{os.path.relpath(path, TOP)}: {what}" for path in pages() for what in page_faults(path)]
+        absent = [(number, text) for number, text in quoted(path) if not is_there(text, known, there)]
+        wrong += [f"{name}:{number}: there is no `{text}`" for number, text in absent]
+        headed = [(number, named) for number, named, is_known in headings_named(path) if not is_known]
+        wrong += [f"{name}:{number}: there is no heading {named}" for number, named in headed]
+        wrong += [f"{name}:{number}: {what}" for number, what in counts_told(path)]
+    wrong += [f"{os.path.relpath(path, TOP)}: {what}" for path in pages() for what in page_faults(path)]
     print(*wrong, sep="\n", end="\n" if wrong else "")
-    return 1 if lost or wrong else 0
+    return 1 if wrong else 0

@@ -134,21 +134,12 @@ def faults(text: str) -> typing.Iterator[str]:
     yield from (f"{crate}: the law {name} has no lines ///" for crate, name, said in laws() if not said)
 
 
-def written(text: str, marks: tuple[str, str], table: str) -> tuple[str, str]:
-    """The page with a table between its marks, and what stands before them."""
-    before, _, rest = text.partition(marks[0])
-    return f"{before}{marks[0]}\n\n{table}\n\n{marks[1]}{rest.partition(marks[1])[2]}", before
-
-
 def main() -> int:
-    only_looks, text = page.is_check(__doc__), text_of(PAGE)
-    if any(mark not in text for mark in (*LAWS, *FUNCTIONS)):
-        print("docs/PROVED.md has no marks for its two tables")
-        return 1
-    new, before = written(text, LAWS, table_of_laws())
-    new, _ = written(new, FUNCTIONS, table_of_functions())
+    only_looks = page.is_check(__doc__)
+    new, before = page.between(text_of(PAGE), LAWS, table_of_laws())
+    new, _ = page.between(new, FUNCTIONS, table_of_functions())
     status = page.written(PAGE, new, list(faults(before)), "from the sources", only_looks)
     table, count = believed.table(crates())
-    new, _ = written(text_of(believed.PAGE), believed.MARKS, table)
+    new, _ = page.between(text_of(believed.PAGE), believed.MARKS, table)
     wrong = [fault] if (fault := believed.fault(count)) else []
     return max(status, page.written(believed.PAGE, new, wrong, "from the definitions", only_looks))

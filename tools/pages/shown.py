@@ -12,6 +12,7 @@ the status is 1. The rows themselves are played by the program of crates/rows, c
 show of them, by tests/typed.py, and the picture of a run is drawn by tests/drawn.py.
 """
 import os
+import pathlib
 import re
 import sys
 import typing
@@ -21,7 +22,8 @@ from front import sources
 from votes import votes
 
 PAGES = ("README.md", "docs/SCRIPTS.md")
-HELP, OF_TOOLS = "help", ("tools.txt", "explore.txt", "judge.txt", "session.txt")
+HELP = "help"
+OF_TOOLS = "tools explain explore judge trace draw show votes may mount shell import session dump".split()
 # What is shown of an output.
 CUT = re.compile(rb" \| (head|tail) -(\d+)$")
 # The commands of which no row can tell the output.
@@ -36,8 +38,7 @@ RUN = re.compile(rb"^# +\./suites (explore[^<]*?) < ", re.M)
 
 
 def content(name: str) -> bytes:
-    with open(os.path.join(TOP, name), "rb") as file:
-        return file.read()
+    return pathlib.Path(TOP, name).read_bytes()
 
 
 def rows() -> list[tuple[str, bytes, bytes]]:
@@ -82,7 +83,7 @@ def texts_of_help(known: list[tuple[str, bytes, bytes]], are_written: bool) -> t
     words_of = {"suites": "--help", "help": "help help"}
     for name in sorted(os.listdir(os.path.join(TOP, HELP))):
         words = words_of.get(name[:-4], f"{name[:-4]} --help")
-        if name in OF_TOOLS or content(os.path.join(HELP, name)) == printed.get(words):
+        if name[:-4] in OF_TOOLS or content(os.path.join(HELP, name)) == printed.get(words):
             continue
         if are_written and words in printed:
             sources.write_whole(os.path.join(TOP, HELP, name), printed[words].decode())

@@ -1,13 +1,7 @@
-"""./suites dump < JOURNAL
+"""./suites dump < JOURNAL: a short script that makes the tree of a journal; help/dump.txt tells all of it.
 
-Prints a short script of `play` that makes the tree of a journal, or of any script without a fault. Each file and folder
-is made by its owner, with its votes and content, in folders that are open to all meanwhile; then each gets its access
-list and its default list, from below. The session itself tells what there is (`row PATH`, `content PATH`) of each path
-that a line of the journal names.
-
-The script is played in its turn and its rows are compared. What is not the same is told on standard error, path by
-path, and the status is 1. Numbers of files and of jobs begin anew, and so do versions; nothing is kept of what was
-dropped, of jobs that have not ended, of denials, of caches, and of which servers are down.
+Each file and folder is made by its owner, with its votes and content, in folders that are open to all meanwhile; then
+each gets its lists, from below. The script is played in its turn and its rows are compared.
 """
 import contextlib
 import fcntl
@@ -173,7 +167,7 @@ def compact(path: str) -> None:
 
 def main() -> int:
     if sys.argv[1:]:
-        print(__doc__)
+        console.print_help("dump")
         return 0 if sys.argv[1] in ("--help", "-h") else 2
     for line in dumped(sys.stdin.buffer.read().decode("latin1")):
         print(line)

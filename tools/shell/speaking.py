@@ -14,7 +14,7 @@ import sys
 import tempfile
 from collections.abc import Callable
 
-from common import TOP
+from common import TOP, text_of
 from mount import beginning, rows, talking
 from mount.talking import Ended, Outcome, User
 from shell import changing
@@ -315,9 +315,7 @@ class Shell(cmd.Cmd):
             file.write(self.script())
 
     def do_help(self, arg: str) -> None:
-        from shell import shell as door
-
-        self.say((door.__doc__ or "").split("\n\n", 2)[2].strip("\n"))
+        self.say(text_of("help", "shell.txt").split("\n\n", 2)[2].strip("\n"))
 
     def do_quit(self, text: str) -> bool:
         return True

@@ -14,10 +14,8 @@ import http.server
 import json
 import secrets
 import sys
-import tempfile
 import threading
 import typing
-import webbrowser
 
 from common import console, forms
 from explain import explain
@@ -167,13 +165,11 @@ class Handler(http.server.BaseHTTPRequestHandler):
 
     def asked(self) -> str:
         """What is asked for, by who may ask. Of all others the address is not even looked at."""
-        if self.headers.get_all("Host") != [self.server.host]:
-            raise Refused(403)
-        if self.headers.get("Origin", f"http://{self.server.host}") != f"http://{self.server.host}":
+        own = f"http://{self.server.host}"
+        if self.headers.get_all("Host") != [self.server.host] or self.headers.get("Origin", own) != own:
             raise Refused(403)
         parts = self.path.encode("latin1", "replace").split(b"/", 2)
-        is_known = len(parts) == 3 and hmac.compare_digest(parts[1], self.server.token.encode())
-        if not is_known:
+        if len(parts) != 3 or not hmac.compare_digest(parts[1], self.server.token.encode()):
             raise Refused(404)
         return parts[2].decode("latin1")
 
@@ -197,48 +193,36 @@ class Handler(http.server.BaseHTTPRequestHandler):
         line, epoch, have = (names.get(name) for name in ("line", "epoch", "have"))
         if not isinstance(line, str) or not isinstance(epoch, int) or not isinstance(have, int) or have < 0:
             raise Refused(400)
-        if any(not letter.isprintable() and letter != "\t" for letter in line):
+        if not line.replace("\t", "").isprintable():
             raise Refused(400)
         return json.dumps(dataclasses.asdict(self.server.desk.tell(line, epoch, have))).encode()
 
     def send(self, status: int, kind: str, text: bytes, **more: str) -> None:
         self.send_response(status)
-        heads = {"Content-Type": kind, "Content-Length": str(len(text)), **GUARDS, **more}
-        for name, value in heads.items():
-            self.send_header(name.replace("_", "-"), value)
+        for name, value in {"Content-Type": kind, "Content-Length": str(len(text)), **GUARDS, **more}.items():
+            self.send_header(name, value)
         self.end_headers()
         self.wfile.write(text)
 
-    def answered(self, answers: dict[str, typing.Callable[[], tuple[str, bytes]]], **more: str) -> None:
+    def answered(self, answers: dict[str, tuple[str, typing.Callable[[], bytes]]]) -> None:
         try:
             asked = self.asked()
             if asked not in answers:
                 raise Refused(404)
-            kind, text = answers[asked]()
+            kind, text = answers[asked][0], answers[asked][1]()
         except Refused as why:
             # what was sent with it is not read, so nothing more can be asked by this way
             self.close_connection = True
             self.send(why.status, "text/plain", b"", Connection="close")
-            return
-        self.send(200, kind, text, **more)
+        else:
+            self.send(200, kind, text)
 
     def do_GET(self) -> None:
         desk = self.server.desk
-        self.answered({
-            PAGE: lambda: ("text/html; charset=utf-8", desk.page()),
-            SCRIPT: lambda: ("text/plain; charset=utf-8", desk.text()),
-        })
+        self.answered({PAGE: ("text/html; charset=utf-8", desk.page), SCRIPT: ("text/plain; charset=utf-8", desk.text)})
 
     def do_POST(self) -> None:
-        self.answered({LINE: lambda: ("application/json", self.line())})
-
-
-def opened(address: str) -> None:
-    """Opens the page in a browser, by a file of this user alone: what stands in a command line is seen by all."""
-    with tempfile.NamedTemporaryFile("w", encoding="utf-8", prefix="run-", suffix=".html", delete=False) as file:
-        file.write(SENDS_ON.format(address, address))
-    if not webbrowser.open(f"file://{file.name}"):
-        console.Teller().say("no browser is found here: open the address with one")
+        self.answered({LINE: ("application/json", self.line)})
 
 
 def main(given: argparse.Namespace) -> int:
@@ -248,8 +232,9 @@ def main(given: argparse.Namespace) -> int:
         with contextlib.suppress(KeyboardInterrupt), Server(Desk(session, lines)) as server:
             console.Teller().say("the page is served until Ctrl-C; who knows its address may give the session lines")
             print(server.address(), flush=True)
-            if given.open:
-                opened(server.address())
+            # a file sends on there: what stands in a command line is seen by all
+            if given.open and not show.opened(SENDS_ON.format(*2 * [server.address()])):
+                console.Teller().say("no browser is found here: open the address with one")
             server.serve_forever(poll_interval=0.2)
     finally:
         session.close(CLOSING)

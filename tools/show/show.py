@@ -1,23 +1,5 @@
-"""./suites show [--open] [--from LINE] [--to LINE] < SCRIPT > run.html
-./suites show --live [--open] [--journal FILE] [--script FILE] [--servers N] [--agents N] [--votes V] [--root U:G:MODE]
-
-Plays a script of events as `suites play` does, and writes a page on which the run can be watched: the requests and
-replies as a picture, what each server and agent has at the moment that is looked at, and the script. The page stands
-alone: it needs a browser, and neither a network nor these tools.
-
-    --open        writes the page into a new file, and opens that in a browser
-    --from LINE   shows the run from this line of the script on
-    --to LINE     shows it to the end of this line. A page shows 60,000 events at most; of a longer run show a part
-    --live        serves the page of a session, and prints its address: what comes next is clicked on the page, as a
-                  step of an agent, a crash, a new job, and is a line of the session. The address is one of this machine
-                  alone and has a random token. The session is as `./suites mount --help` has it: of 3 servers and 2
-                  agents where nothing is told, kept in a journal, begun by a script. The script so far can be saved
-                  there. Ctrl-C ends it
-
-On the page: the arrow keys, Home and End go through the run, PageUp and PageDown by its rows, `b` and `n` by its jobs,
-and space plays it. `p` is for who presents: large type, and nothing of what is still to come. A sentence says what
-happens at the moment. A click on an arrow goes there, one on a folded phase opens it, and one on a path shows the file
-through time. What has dots below it is explained to whoever points at it.
+"""./suites show [OPTIONS] < SCRIPT > run.html: a run as a page that stands alone, or by --live the page of a session
+(live.py); help/show.txt tells all of it.
 """
 import argparse
 import base64
@@ -30,10 +12,9 @@ import sys
 import tempfile
 import typing
 import webbrowser
-from collections.abc import Iterator
 
 from common import TOOLS, console, quoted, text_of
-from explain import explain
+from explain import explain, faults
 from trace import states, trace
 from trace.events import Player
 
@@ -98,21 +79,16 @@ class Besides(typing.NamedTuple):
     asks: bool = False
 
 
-def texts(player: Player) -> Iterator[str]:
-    """The events of a script as texts; ends the tool where the script has a fault."""
-    return (line.decode("latin1").rstrip("\n") for line in player.lines())
-
-
 def events_of(script: bytes) -> list[str]:
-    """All events of a script as texts."""
+    """All events of a script as texts; ends the tool where the script has a fault."""
     with Player(script) as player:
-        return [*texts(player)]
+        return [line.decode("latin1").rstrip("\n") for line in player.lines()]
 
 
 def shown_of(script: bytes, first: int, last: int) -> Shown:
     """The events of lines of a script: all, where the first is 0."""
     with Player(script) as player:
-        lines = texts(player)
+        lines = (line.decode("latin1").rstrip("\n") for line in player.lines())
         opening = next(lines)
         before, kept = states.Part(json.loads(opening)), [opening]
         for line in lines:
@@ -141,10 +117,8 @@ def digest(text: str) -> str:
 
 def page_of(script: bytes, shown: Shown, besides: Besides | None = None) -> str:
     """The page of a run, or of a part of one, and what it has besides."""
-    lines = script.decode("utf-8", "replace").split("\n")
-    if lines[-1] == "":
-        lines.pop()
-    data = {"script": [line.removesuffix("\r") for line in lines], **dataclasses.asdict(shown), "meanings": meanings()}
+    lines = faults.lines_of(script.decode("utf-8", "replace"))
+    data = {"script": lines, **dataclasses.asdict(shown), "meanings": meanings()}
     parts = {name: text_of(PARTS, file) for name, file in FILES.items()}
     styles = [digest(parts["STYLE"])]
     scripts = [digest(text) for name, text in parts.items() if name != "STYLE"]
@@ -158,13 +132,13 @@ def page_of(script: bytes, shown: Shown, besides: Besides | None = None) -> str:
     return re.sub(r"@([A-Z]+)@", lambda found: parts[found[1]], text_of(PARTS, "page.html"))
 
 
-def opened(page: str) -> None:
-    """Opens a page in a browser, in a file that stays."""
+def opened(page: str, says: str = "") -> bool:
+    """Opens a page in a browser, in a file of this user alone that stays; whether one is found."""
     with tempfile.NamedTemporaryFile("w", encoding="utf-8", prefix="run-", suffix=".html", delete=False) as file:
         file.write(page)
-    console.Teller().say(f"the page is {file.name}")
-    if not webbrowser.open(f"file://{file.name}"):
-        raise console.Stop("no browser is found here: open the file with one")
+    if says:
+        console.Teller().say(says.format(file.name))
+    return webbrowser.open(f"file://{file.name}")
 
 
 def main() -> int:
@@ -183,8 +157,7 @@ def main() -> int:
         words.options(read, "--agents")
     given = read.parse_args()
     if given.help:
-        print(__doc__.strip())
-        return 0
+        return console.print_help("show")
     if is_live:
         if given.file is not None or given.first or given.last != sys.maxsize:
             raise console.Bad("a page of a session has neither --from nor --to; a script is told by --script FILE")
@@ -195,8 +168,8 @@ def main() -> int:
     if not 0 <= given.first <= given.last:
         raise console.Bad("--from and --to are lines of the script, the first before the last")
     page = page_of(script, shown_of(script, given.first, given.last))
-    if given.open:
-        opened(page)
-    else:
+    if not given.open:
         sys.stdout.buffer.write(page.encode())
+    elif not opened(page, "the page is {}"):
+        raise console.Stop("no browser is found here: open the file with one")
     return 0

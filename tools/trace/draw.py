@@ -1,22 +1,4 @@
-"""./suites draw [--agent A] [--suite S] [--from N] [--to M] [--fold] [--all] [--anyway] < SCRIPT > run.svg
-
-Plays a script of events as `suites play` does, and draws what happens, from above to below: a line for each agent and
-each server that does something, an arrow for each request and a dashed one for its reply, grey where a server is down,
-a mark where a transaction is decided, and how a job ended beside its last arrow. The number of a job and of its
-transaction (t) stand where it begins, and what all signs mean at the foot. A label that has no room is cut, and is
-there whole for whoever points at it.
-
-    --agent A   only what agent A does, and what becomes of servers
-    --suite S   only what is about a file or folder, by its path or its number
-    --from N    only from the Nth request on, of those that would be drawn else
-    --to M      only up to the Mth request
-    --fold      requests of one phase that follow on each other in one line, with a dot at each server (red where it
-                said no)
-    --all       agents and servers that do nothing, too
-    --anyway    more than 2,000 requests, too
-
-Where it takes longer than two seconds it says on a terminal how far it is.
-"""
+"""./suites draw [OPTIONS] < SCRIPT > run.svg: a run as a picture; help/draw.txt tells all of it."""
 import argparse
 import html
 import itertools
@@ -124,13 +106,12 @@ class Picture:
 
     def label(self, x: int, y: int, words: str, room: float, style: str) -> None:
         """A text right of a place, or left of it where the room is negative. What has no room is cut."""
-        most, title = int(abs(room) / LETTER), ""
+        most, text = int(abs(room) / LETTER), html.escape(quoted.safe(words))
         if len(words) > most:
-            title = f"<title>{html.escape(quoted.safe(words))}</title>"
-            words = words[: max(0, most - 1)] + "…"
+            text = f"{html.escape(quoted.safe(words[: max(0, most - 1)]))}…<title>{text}</title>"
         style = f' class="{style}"' if style else ""
         anchor = ' text-anchor="end"' if room < 0 else ""
-        self.parts.append(f'<text x="{x}" y="{y}"{style}{anchor}>{html.escape(quoted.safe(words))}{title}</text>')
+        self.parts.append(f'<text x="{x}" y="{y}"{style}{anchor}>{text}</text>')
 
     def beside(self, x: int, y: int, words: str, style: str) -> None:
         """A text that has room up to the edge of the picture."""
@@ -254,12 +235,10 @@ def happenings(events: Iterable[Event]) -> Iterator[Happening]:
     """What happens in a run, in its order: of which kind, at what, and what tells it."""
     for event in events:
         shown = shown_at(event) if event["kind"] == "line" else None
-        if shown:
-            is_idle = "nothing" in event
-            yield SAID, shown[0], (
-                "nothing" if is_idle else event["text"].split()[0],
-                shown[1] + (" (nothing happens: it has a job)" if is_idle else ""),
-            )
+        if shown and "nothing" in event:
+            yield SAID, shown[0], ("nothing", f"{shown[1]} (nothing happens: it has a job)")
+        elif shown:
+            yield SAID, shown[0], (event["text"].split()[0], shown[1])
         if event["kind"] == "request":
             yield ASKED, f"agent {event['agent']}", event
         if "end" in event:
@@ -267,56 +246,34 @@ def happenings(events: Iterable[Event]) -> Iterator[Happening]:
 
 
 class Choice:
-    """What happens from one request to another, counted from 1; of what was before, what is still so."""
+    """What happens from one request to another, counted from 1; of what was before, what is still so. Of many requests
+    only the first are kept.
+    """
 
-    def __init__(self, first: int, last: int) -> None:
-        self.first, self.last, self.count = first, last, 0
-        self.before: dict[str, Happening] = {}
-
-    def has(self, kind: str) -> bool:
-        """Whether what happens behind so many requests belongs to them."""
-        if kind == SAID:
-            return self.first - 1 <= self.count < self.last
-        return self.count <= self.last and (self.count >= self.first or self.first == 1)
-
-    def pass_by(self, kind: str, name: str, what: typing.Any) -> None:
-        """Keeps which servers are down, and which jobs are under way."""
-        if kind == ENDED or kind == SAID and what[0] == "return":
-            self.before.pop(name, None)
-        elif kind == SAID and what[0] in BEGIN:
-            self.before[name] = STANDS, name, (what[0], f"begun before, {what[1]}")
-        elif kind == SAID and what[0] == "crash":
-            self.before[name] = STANDS, name, (what[0], "is down")
-
-    def of(self, found: Iterable[Happening]) -> Iterator[Happening]:
+    def __init__(self, found: Iterable[Happening], first: int, last: int, most: int) -> None:
+        # how many requests there were up to the last one, how many of them are chosen, and what happens
+        self.count, self.chosen, self.items = 0, 0, list[Happening]()
+        before: dict[str, Happening] = {}
         for kind, name, what in found:
             self.count += kind == ASKED
-            if self.has(kind):
-                yield from self.before.values()
-                self.before.clear()
-                yield kind, name, what
-            elif self.count > self.last:
-                return
-            else:
-                self.pass_by(kind, name, what)
-
-
-def gathered(found: Iterable[Happening], choice: Choice, most: int) -> tuple[list[Happening], int]:
-    """What is to be drawn, of so many requests at most, and how many requests that would be."""
-    items, count = [], 0
-    for item in choice.of(found):
-        count += item[0] == ASKED
-        if count <= most:
-            items.append(item)
-    return items, count
+            if first - 1 <= self.count < last if kind == SAID else first <= max(1, self.count) and self.count <= last:
+                self.chosen += kind == ASKED
+                self.items += [*before.values(), (kind, name, what)] if self.chosen <= most else []
+                before.clear()
+            elif self.count > last:
+                break
+            elif kind == ENDED or kind == SAID and what[0] == "return":
+                before.pop(name, None)
+            elif kind == SAID and what[0] in (*BEGIN, "crash"):
+                told = "is down" if what[0] == "crash" else f"begun before, {what[1]}"
+                before[name] = STANDS, name, (what[0], told)
 
 
 def columns(items: list[Happening]) -> tuple[set[int], set[int]]:
     """The numbers of the agents and servers that do something."""
-    agents, servers = ({what[who] for kind, _, what in items if kind == ASKED} for who in ("agent", "server"))
-    for kind, name, what in items:
-        if kind == SAID:
-            (servers if name.startswith("server") else agents).add(int(name.split()[1]))
+    names = [name for kind, name, _ in items if kind in (ASKED, SAID)]
+    names += [f"server {what['server']}" for kind, _, what in items if kind == ASKED]
+    agents, servers = ({int(name.split()[1]) for name in names if name.startswith(of)} for of in ("agent", "server"))
     return agents, servers
 
 
@@ -332,11 +289,7 @@ def phase_of(item: Happening) -> tuple[object, ...] | None:
 def phases(items: list[Happening], folds: bool) -> Iterator[list[Happening]]:
     """What happens, one by one, or where they are to be folded those requests together that are of one phase."""
     for key, group in itertools.groupby(items, phase_of if folds else lambda item: None):
-        some = list(group)
-        if key and len(some) > 1:
-            yield some
-        else:
-            yield from ([one] for one in some)
+        yield from [[*group]] if key else ([one] for one in group)
 
 
 def fold(picture: Picture, requests: list[Event], known: dict[int, str]) -> None:
@@ -388,18 +341,18 @@ def picture(
     """The picture of a run, or of the part that is asked for, with all of so many agents and servers."""
     if given.first > given.last:
         raise console.Stop("--from is to be no more than --to")
-    choice = Choice(given.first, given.last)
     found = happenings(trace.narrowed(events, given.agent, trace.number_of(given.suite, known)))
-    items, count = gathered(found, choice, sys.maxsize if given.anyway else MOST)
+    most = sys.maxsize if given.anyway else MOST
+    choice = Choice(found, given.first, given.last, most)
     if given.first > max(1, choice.count):
         raise console.Stop(f"there are {choice.count:,} requests, and no more to begin with at {given.first:,}")
-    if count > MOST and not given.anyway:
+    if choice.chosen > most:
         raise console.Stop(
-            f"{count:,} requests would be drawn, above {MOST:,}: choose by --agent A, --suite S (a path or a number)"
-            f" or --from N --to M (as --from 1 --to {MOST}); --anyway draws them all"
+            f"{choice.chosen:,} requests would be drawn, above {MOST:,}: choose by --agent A, --suite S (a path or a"
+            f" number) or --from N --to M (as --from 1 --to {MOST}); --anyway draws them all"
         )
-    agents, servers = columns(items)
-    return drawn(items, known, agents | {*range(everybody[0])}, servers | {*range(everybody[1])}, given.fold)
+    agents, servers = columns(choice.items)
+    return drawn(choice.items, known, agents | {*range(everybody[0])}, servers | {*range(everybody[1])}, given.fold)
 
 
 def positive(word: str) -> int:
@@ -414,7 +367,7 @@ def asked(words: typing.Sequence[str]) -> argparse.Namespace:
         "--to": {"type": positive, "dest": "last", "default": sys.maxsize},
     }
     more |= {word: {"action": "store_true"} for word in ("--fold", "--all", "--anyway")}
-    return trace.asked(list(words), __doc__, more)
+    return trace.asked(list(words), "draw", more)
 
 
 def main() -> int:

@@ -92,38 +92,28 @@ class Part(Retold):
 
     def take(self, event: dict, line: str) -> None:
         """Takes in an event, which stands so in a line."""
-        is_request = event["kind"] == "request"
         self.hear(event)
         self.last = event
-        if "at" in event:
-            self.raise_all(event["at"].get("copies", ()))
-        if is_request:
-            self.hear_reply(event)
-        if "by" not in event:
-            return
-        number = event["by"]["agent"]
+        self.raise_all(event.get("at", {}).get("copies", ()))
+        asked, number = event.get("request", {}).get("asks"), event.get("by", {}).get("agent")
+        # what was prepared is in effect from a decision on
+        if asked == "prepare":
+            self.parts[number] = [part for part in event["request"]["parts"] if part["takes"] != "nothing"]
+        elif asked == "decide" and event["reply"].get("verdict", "").startswith("answered"):
+            self.raise_all(self.parts.get(number, ()))
         if "end" in event:
             self.jobs.pop(number, None)
             self.ends[number] = event["end"]
         elif begun(event):
             self.jobs[number] = [line]
-        elif is_request and number in self.jobs:
+        elif event["kind"] == "request" and number in self.jobs:
             self.jobs[number].append(line)
-
-    def hear_reply(self, event: dict) -> None:
-        """What was prepared is in effect from a decision on."""
-        asked = event.get("request", {}).get("asks")
-        if asked == "prepare":
-            self.parts[event["agent"]] = [part for part in event["request"]["parts"] if part["takes"] != "nothing"]
-        elif asked == "decide" and event["reply"].get("verdict", "").startswith("answered"):
-            self.raise_all(self.parts.get(event["agent"], ()))
 
     def raise_all(self, copies: Iterable[dict]) -> None:
         for copy in copies:
             now = self.newest.get(copy["suite"], NEVER)
-            prefix, content = copy["prefix"], copy.get("content", 0)
-            if prefix > now["prefix"] or content > now["content"]:
-                most = {"prefix": max(prefix, now["prefix"]), "content": max(content, now["content"])}
+            most = {what: max(copy.get(what, 0), own) for what, own in now.items()}
+            if most != now:
                 self.newest[copy["suite"]] = most
 
     def opening(self) -> str:

@@ -1,16 +1,4 @@
-"""./suites trace [--agent A] [--suite S] < SCRIPT
-./suites trace --json < SCRIPT
-
-Plays a script of events as `suites play` does, and prints all that happens: below each line of the script (`>`) each
-request with its server and its reply, the lines of `play` as `play` prints them, and at the end (`=`) what each server
-has of each file and folder, with their versions, votes and locks, and where a copy is behind another one.
-
-    --agent A   only what agent A does, and what becomes of servers
-    --suite S   only what is about a file or folder, by its path or its number
-    --json      alone: all events for other programs, an object of JSON a line (docs/EVENTS.md)
-
-Where it takes longer than two seconds it says on a terminal how far it is.
-"""
+"""./suites trace [OPTIONS] < SCRIPT: all that happens in a run; help/trace.txt tells all of it."""
 import argparse
 import dataclasses
 import re
@@ -117,9 +105,9 @@ def shown_of(held: Iterable[Block]) -> Iterator[Event]:
     return (event for one in held if one.is_shown for event in one.events)
 
 
-def asked(words: list[str], text: str, more: Mapping[str, Mapping[str, Any]] | None = None) -> argparse.Namespace:
-    """The words of the command line, with some more, as argparse has them; help is this text."""
-    read = argparse.ArgumentParser(prog=text.split(" [")[0], add_help=False)
+def asked(words: list[str], name: str, more: Mapping[str, Mapping[str, Any]] | None = None) -> argparse.Namespace:
+    """The words of the command line of a tool, with some more, as argparse has them."""
+    read = argparse.ArgumentParser(prog=f"./suites {name}", add_help=False)
     read.add_argument("--agent", type=int)
     read.add_argument("--suite")
     for word, how in (more or {}).items():
@@ -128,8 +116,7 @@ def asked(words: list[str], text: str, more: Mapping[str, Mapping[str, Any]] | N
     read.add_argument("file", nargs="?")
     given = read.parse_args(words)
     if given.help:
-        print(text.strip())
-        sys.exit(0)
+        sys.exit(console.print_help(name))
     if given.file is not None:
         raise console.Bad(f"a script is read from standard input: {read.prog} < {quoted.plain(given.file)}")
     return given
@@ -211,7 +198,7 @@ def main() -> int:
         if len(sys.argv) > 2:
             raise console.Bad("--json stands alone: ./suites trace --json < SCRIPT")
         return json_events.tell()
-    given = asked(sys.argv[1:], __doc__)
+    given = asked(sys.argv[1:], "trace")
     out: IO[bytes] | quoted.Terminal = sys.stdout.buffer
     if sys.stdout.isatty():
         out = quoted.Terminal(sys.stdout.buffer)

@@ -1,40 +1,4 @@
-"""./suites votes VOTES [--servers N] [--up P]
-./suites votes --script FILE [--up P]
-./suites votes --of N [--lose-read A] [--lose-write B] [--up P]
-
-Tells which servers a file or folder with these votes may lose, and how often it is blocked. VOTES is written as in
-scripts: `1,1,1/2/2` is a vote each of servers 0, 1 and 2, and two votes that a read and a write collect. With --script
-it tells this of every file and folder that a script of `play` leaves, dropped or not, with the votes that are in effect
-at its end. With --of it tells which votes N servers may have, so that reads go on without any A servers, and writes
-without any B.
-
-    --servers N      how many servers there are; else as many as VOTES has fields
-    --up P           the chance that a server is up, each by itself; else 0.99
-    --lose-read A    so many servers, whichever they are, may be lost for reads; else 0
-    --lose-write B   the same for writes; else 0
-
-Of a read and of a write:
-
-    may be lost   so many servers, whichever they are, may be down: the others have the votes
-    stopped by    the least sets of servers whose loss leaves too few votes (without one of a set the votes are up
-                  again), the smallest first, up to twenty of them
-    blocked       the chance that too few votes are up, exact and told in two digits. It is of votes alone: neither
-                  locks nor homes nor votes that are not found are in it
-    not found     with --script, of votes that were moved: the least sets of servers with which down the votes are up,
-                  and an agent without a hint, which begins at the opening votes, does not find them (U1 by older
-                  votes). Of more than twelve servers only sets of up to three are tried
-    U5 at first   of the cases in which the votes are up, those in which the home of the transaction is down, so that it
-                  ends U5: over jobs in a row each of the N servers is the home equally often, so this is the mean
-                  share of servers that are down. Begun again it has the next server as its home
-
-All of it is of one file or folder alone. A path leads through the root folder and on, and of each folder on the way
-the votes of a read have to be up too. To make or drop a name is a write of its folder; to set votes collects those of
-a write twice, of the old votes and of the new ones.
-
-Of --of there is a line for each way to share votes, the best first: no other one in the table is as good in all.
-There a read and a write are requests, as `play` counts them without a cache, of a file in the root folder that has
-the same votes, where all servers are up.
-"""
+"""./suites votes VOTES, --script FILE or --of N: what votes bear; help/votes.txt tells all of it."""
 import argparse
 import collections
 import decimal
@@ -45,7 +9,7 @@ import re
 import sys
 import typing
 
-from common import console, quoted
+from common import console, quoted, text_of
 from explain import explain, reasons
 from trace.events import events_of
 from trace.paths import paths
@@ -56,15 +20,11 @@ MOST_AGENTS = 64
 # How many sets of servers, and how many names, are told at most.
 TOLD = 20
 ABOUT = (
-    (
-        "Of one file or folder alone: of each folder on its path, from the root folder on, the votes of a read have to"
-        " be up too."
-    ),
-    (
-        "And of votes alone. Any server may be the home of a transaction, also one without a vote. If it is lost in the"
-        " middle of one that has prepared, what that one locked is in doubt: others end U2 there, until this server is"
-        " back and a sweep is made."
-    ),
+    "Of one file or folder alone: of each folder on its path, from the root folder on, the votes of a read have to"
+    " be up too.",
+    "And of votes alone. Any server may be the home of a transaction, also one without a vote. If it is lost in the"
+    " middle of one that has prepared, what that one locked is in doubt: others end U2 there, until this server is"
+    " back and a sweep is made.",
 )
 MISSED = (
     "Where these servers are down the votes are up and are not found: an agent without a hint in its cache begins at"
@@ -181,14 +141,13 @@ def told(votes: Votes, up: str) -> list[str]:
     for server, share in enumerate(votes.shares):
         by_share[share].append(str(server))
     lines = [f"{len(votes.shares)} server{'s' * (len(votes.shares) > 1)}, each up with chance {up}"]
-    for share in sorted(by_share, reverse=True):
-        servers = by_share[share]
+    for share, servers in sorted(by_share.items(), reverse=True):
         have = f"{share} vote{'s' * (share > 1)}" if share else "no vote"
         lines.append(listed(f"    {have:<13} ", [f"server{'s' * (len(servers) > 1)}", *servers], 0))
     kinds = [("read and write", votes.r)] if votes.r == votes.w else [("read", votes.r), ("write", votes.w)]
-    return lines + [
-        line for kind, needed in kinds for line in told_of(kind, votes.shares, needed, fractions.Fraction(up))
-    ]
+    for kind, needed in kinds:
+        lines += told_of(kind, votes.shares, needed, fractions.Fraction(up))
+    return lines
 
 
 def told_of_word(word: str, servers: int | None = None, up: str = "0.99") -> list[str]:
@@ -248,9 +207,8 @@ def missed_of(suite: search.Suite) -> tuple[str, ...]:
     kinds = [("read and write", read)] if read == write else [("read", read), ("write", write)]
     lines = []
     for kind, words in kinds:
-        if words:
-            lines += [f"{kind}: votes that were moved"]
-            lines += [listed("    not found     ", words[:TOLD], len(words)).rstrip(";")]
+        told = listed("    not found     ", words[:TOLD], len(words)).rstrip(";")
+        lines += [f"{kind}: votes that were moved", told] if words else []
     return tuple(lines)
 
 
@@ -260,10 +218,8 @@ def told_of_script(script: bytes, up: str) -> list[str]:
         name = f"{left.paths[number]}=suite {number}" if number in left.paths else f"suite {number}"
         alike[suite.newest().text(), missed_of(suite)].append(name)
     for (word, missed), names in alike.items():
-        lines.append(
-            listed("", [f"votes {word} of", *(f"{name}," for name in names[:TOLD])], len(names) + 1).rstrip(",")
-        )
-        lines += [*told(votes_of(word, left.servers), up), *missed]
+        first = [f"votes {word} of", *(f"{name}," for name in names[:TOLD])]
+        lines += [listed("", first, len(names) + 1).rstrip(","), *told(votes_of(word, left.servers), up), *missed]
         lines += [filled(MISSED.format(left.opening)), ""] if missed else [""]
     return [*lines, *map(filled, ABOUT)]
 
@@ -276,15 +232,12 @@ def told_of_shapes(servers: int, lose: tuple[int, int], up: str) -> list[str]:
         text = f"no votes of {servers} servers let reads lose {lose[0]} of them and writes {lose[1]}"
         raise console.Stop(f"{text}: a read needs one server, and a write more than half of all votes")
     wide = max(len("votes"), *(len(shape.word) for shape in found[:TOLD]))
-    heads = ("requests", "may be lost", "blocked", "blocked or home down")
     lines = [
-        (
-            f"{servers} server{'s' * (servers > 1)}, each up with chance {up}: reads go on without any {lose[0]},"
-            f" writes without any {lose[1]}"
-        ),
+        f"{servers} server{'s' * (servers > 1)}, each up with chance {up}: reads go on without any {lose[0]},"
+        f" writes without any {lose[1]}",
         "",
-        f"{'':{wide}}  {heads[0]:12} {heads[1]:12} {heads[2]:18} {heads[3]}",
-        f"{'votes':{wide}}  {'read  write':12} {'read  write':12} {'read':8} {'write':9} {'read':8} write",
+        f"{'':{wide}}  requests     may be lost  blocked            blocked or home down",
+        f"{'votes':{wide}}  read  write  read  write  read     write     read     write",
     ]
     for shape in found[:TOLD]:
         votes = search.word_of(shape.word)
@@ -299,9 +252,8 @@ def told_of_shapes(servers: int, lose: tuple[int, int], up: str) -> list[str]:
 
 def asked(words: list[str]) -> argparse.Namespace:
     """The words of the command line. A word of votes may begin with a hyphen, as that of no option does."""
-    read = argparse.ArgumentParser(
-        prog="./suites votes", add_help=False, usage=__doc__.split("\n\n")[0].replace("\n", "\n       ")
-    )
+    usage = text_of("help", "votes.txt").partition("\n\n")[0].replace("\n", "\n       ")
+    read = argparse.ArgumentParser(prog="./suites votes", add_help=False, usage=usage)
     read.add_argument("votes", nargs="?")
     read.add_argument("--script")
     read.add_argument("--servers", type=int)
@@ -313,15 +265,10 @@ def asked(words: list[str]) -> argparse.Namespace:
     hyphened = [word for word in words if re.match(r"-(?!-).*[,/]", word)]
     given = read.parse_args([word for word in words if word not in hyphened] + (["--", *hyphened] if hyphened else []))
     if given.help:
-        print(__doc__.strip())
-        sys.exit(0)
+        sys.exit(console.print_help("votes"))
     ways = [given.votes is not None, given.script is not None, given.of is not None]
-    if (
-        sum(ways) != 1
-        or (given.servers is not None and not ways[0])
-        or (given.lose_read or given.lose_write)
-        and not ways[2]
-    ):
+    is_vain = given.servers is not None and not ways[0] or (given.lose_read or given.lose_write) and not ways[2]
+    if sum(ways) != 1 or is_vain:
         read.error("either VOTES are named, or --script FILE, or --of N")
     if ways[2] and not (1 <= given.of <= MOST_SERVERS and min(given.lose_read, given.lose_write) >= 0):
         read.error(f"--of is a number from 1 to {MOST_SERVERS}, and none of them is lost more than once")

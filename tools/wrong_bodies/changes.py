@@ -6,6 +6,7 @@ must-fail`) knows no such line, and takes a text only where it stands once in th
 without the line, and marks the line of the source that is meant, in a copy.
 """
 import os
+import pathlib
 import typing
 
 from common import functions, text_of
@@ -119,8 +120,7 @@ def marked(change: Change, crate: str) -> tuple[str, str]:
         with_mark = text[: place + len(change.old)] + rest + text[ends:]
         if sources.told(with_mark, ".rt") != sources.told(text, ".rt"):
             raise Bad(f"its 'old:' text stands where no comment may be: {change.old.strip()}")
-        with open(path, "w", encoding="utf-8") as file:
-            file.write(with_mark)
+        pathlib.Path(path).write_text(with_mark, encoding="utf-8")
     return change.old + rest, change.new + rest
 
 

@@ -14,6 +14,7 @@ was not tried, and the status is then 1. --check proves nothing and takes no tim
 import argparse
 import contextlib
 import os
+import pathlib
 import re
 import shutil
 import signal
@@ -21,7 +22,7 @@ import subprocess
 import tempfile
 import typing
 
-from common import TOP, of_kit, text_of
+from common import TOP, console, of_kit, text_of
 from wrong_bodies import changes
 
 CRATES = os.path.join(TOP, "crates")
@@ -60,21 +61,16 @@ def why_not(path: str, place: str, crate: str) -> str | None:
 
 def check(names: list[str]) -> int:
     """Tells each edit whose texts do not apply, and returns how many."""
-    lost, number = 0, 0
-    for name in names:
-        seen = set()
-        for place, path in ((place, path) for place in (GATE, BESIDE) for path in edits(name, place)):
-            number += 1
-            why = why_not(path, place, os.path.join(CRATES, name)) or (
-                "its name stands in both places" if name_of(path) in seen else None
-            )
-            seen.add(name_of(path))
-            if why:
-                lost += 1
-                print(f"{os.path.relpath(path, TOP)}: {why}")
-    print(
-        f"{number} wrong bodies, {lost} of them do not apply" if lost else f"{number} wrong bodies, all of them apply"
-    )
+    found = [(name, place, path) for name in names for place in (GATE, BESIDE) for path in edits(name, place)]
+    lost, seen = 0, set[tuple[str, str]]()
+    for name, place, path in found:
+        is_twice = (name, name_of(path)) in seen
+        why = why_not(path, place, os.path.join(CRATES, name)) or ("its name stands in both places" if is_twice else "")
+        seen.add((name, name_of(path)))
+        if why:
+            lost += 1
+            print(f"{os.path.relpath(path, TOP)}: {why}")
+    print(f"{len(found)} wrong bodies, {f'{lost} of them do not apply' if lost else 'all of them apply'}")
     return lost
 
 
@@ -92,30 +88,13 @@ def copy(room: str, taken: dict[str, list[str]]) -> None:
             # of one that does not apply rt tells so
             with contextlib.suppress(changes.Bad):
                 text = changes.for_kit(text, crate)
-            with open(os.path.join(crate, GATE, os.path.basename(path)), "w", encoding="utf-8") as target:
-                target.write(text)
-
-
-@contextlib.contextmanager
-def emptied() -> typing.Iterator[str]:
-    """A temporary folder that is gone afterwards, however that comes."""
-    room = tempfile.mkdtemp(prefix="wrong-bodies-")
-    try:
-        yield room
-    finally:
-        shutil.rmtree(room, ignore_errors=True)
+            pathlib.Path(crate, GATE, os.path.basename(path)).write_text(text, encoding="utf-8")
 
 
 @contextlib.contextmanager
 def started(words: list[str], folder: str, room: str) -> typing.Iterator[subprocess.Popen[str]]:
     """A command whose rubbish lies in the room, in a group of its own that ends with this program."""
-    how: dict[str, typing.Any] = {
-        "stdin": subprocess.DEVNULL,
-        "stdout": subprocess.PIPE,
-        "stderr": subprocess.STDOUT,
-        "errors": "replace",
-    }
-    ran = subprocess.Popen(words, cwd=folder, env={**os.environ, "TMPDIR": room}, start_new_session=True, **how)
+    ran = console.start(words, folder, subprocess.PIPE, env={**os.environ, "TMPDIR": room}, errors="replace")
     try:
         yield ran
     finally:
@@ -155,10 +134,8 @@ def tell(name: str, files: list[str], said: dict[tuple[str, str], str]) -> int:
     for tried in map(name_of, files):
         word = said.get((name, tried), "NOT TRIED: rt said nothing of it")
         word = f"NOT TRIED: {said[name, None]}" if (name, None) in said else word
-        if not word.startswith("refused"):
-            lost += 1
-            print(f"{name}/{tried}: {word}")
-        elif "(only " in word:
+        lost += not word.startswith("refused")
+        if not word.startswith("refused") or "(only " in word:
             print(f"{name}/{tried}: {word}")
     print(f"{name}: {len(files) - lost} of {len(files)} refused", flush=True)
     return lost
@@ -167,25 +144,23 @@ def tell(name: str, files: list[str], said: dict[tuple[str, str], str]) -> int:
 def taken_of(names: list[str], given: argparse.Namespace) -> dict[str, list[str]]:
     """The files to try, by crate."""
     places = (GATE, BESIDE) if given.only else (GATE,) if given.gate else (BESIDE,)
-    found = {name: [path for place in places for path in edits(name, place)] for name in names}
-    found = {
-        name: [path for path in files if not given.only or name_of(path) in given.only] for name, files in found.items()
-    }
-    return {name: files for name, files in found.items() if files}
+    taken: dict[str, list[str]] = {}
+    for name in names:
+        files = [path for place in places for path in edits(name, place)]
+        taken[name] = [path for path in files if not given.only or name_of(path) in given.only]
+    return {name: files for name, files in taken.items() if files}
 
 
 def try_all(names: list[str], given: argparse.Namespace) -> int:
     """Tries the edits of these crates, and returns how many were not refused."""
     taken = taken_of(names, given)
     print(f"{sum(map(len, taken.values()))} wrong bodies to try in {len(taken)} crates", flush=True)
-    with emptied() as room:
+    with tempfile.TemporaryDirectory(prefix="wrong-bodies-", ignore_cleanup_errors=True) as room:
         copy(room, taken)
         proved = [name for name in taken if is_proved(name, room)]
         said = try_edits(proved, given.anew, room) if proved else {}
-    lost = sum(tell(name, taken[name], said) for name in proved)
-    return (
-        lost + sum(len(files) for name, files in taken.items() if name not in proved) + (not taken and bool(given.only))
-    )
+    lost = sum(tell(name, files, said) if name in proved else len(files) for name, files in taken.items())
+    return lost + (not taken and bool(given.only))
 
 
 def words() -> argparse.Namespace:

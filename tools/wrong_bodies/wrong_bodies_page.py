@@ -6,6 +6,8 @@
 The first line of an edit says what it makes wrong (`why: ..`), the second which function refuses it and by which
 clause (`refused by: ..`). ./suites --test runs --check.
 """
+import collections
+import itertools
 import os
 import typing
 
@@ -15,30 +17,7 @@ from wrong_bodies import changes, wrong_bodies
 PAGE = os.path.join("docs", "WRONG-BODIES.md")
 SHOWN = os.path.join(TOP, "docs", "wrong-bodies-shown.txt")
 PLACES = ((wrong_bodies.GATE, "gate"), (wrong_bodies.BESIDE, "beside"))
-HEAD = """# Wrong bodies
-
-Each line is an edit that makes a function, a definition or a condition wrong. The prover must refuse it: if it does
-not, a contract is too weak. `python3 tools wrong_bodies_page` writes this page from the edits, so change the edits and
-not the page.
-
-An edit marked `gate` stands in `crates/NAME/must-fail`, and the gate tries it whenever its crate changes. The gate
-has the edits that break a rule of the service, those that were once let through, and those that a reader would try
-first. An edit marked `beside` stands in `crates/NAME/wrong`. It was refused when it was last tried, or its last
-column says that it was not tried yet; `python3 tools wrong_bodies NAME` tries it again. Try those of a crate before a
-change of its public contracts or its definitions lands.
-
-The last column names the function, and in brackets the clause or the definition that the edit breaks. A function with
-one clause is named alone.
-
-The gate has none of eight crates of laws, of the commands but `may`, of `event_json`, `suite_cli`, `suite_args`,
-`suite_script` and `suite_play` (the rows of `crates/rows` show what the last four print), and none of the crates that
-the others only build on (`suite_content`, `byte_streams`, `script_text`, `acl_text`, `file_exec`): the proof of a
-crate above fails where it needs a clause that was weakened. Nobody looked whether each of their clauses is needed
-above. A crate's first edit costs its whole proof once more, and the gate is ended at 180 minutes: so it has none of
-`file_ops`, `run_explore`, `suite_session`, `suite_serve`, `history_judge` and `suite_history`, which are dear, and of
-which no edit is asked for by name below.
-"""
-
+MARKS = "<!-- edits: written by tools/wrong_bodies/wrong_bodies_page.py -->", "<!-- end of edits -->"
 # The bodies that a reader of the service's rules asks for first, by their plain names, and of those that no clause can
 # refuse the test that does.
 ASKED = """
@@ -77,34 +56,34 @@ a row shows: of most of these no command tells what they are about.
 """
 
 
+def edits() -> typing.Iterator[tuple[str, str, str]]:
+    """Each edit: its crate, whether it stands in the gate or beside it, and its path."""
+    for crate in crates.listed():
+        for folder, place in PLACES:
+            yield from ((crate, place, path) for path in wrong_bodies.edits(crate, folder))
+
+
 def words_of(text: str) -> dict[str, str]:
     """What the lines `why: ..` and `refused by: ..` of an edit say."""
     parted = (line.partition(": ") for line in text.split("\n"))
     return {word: rest for word, _, rest in parted if word in changes.TOLD}
 
 
-def rows(crate: str, faults: list[str]) -> typing.Iterator[str]:
-    """The lines of the table of a crate. What is wrong with its edits is added to the faults."""
-    for folder, place in PLACES:
-        for edit in wrong_bodies.edits(crate, folder):
-            name = f"{crate}/{wrong_bodies.name_of(edit)}"
-            words = words_of(text_of(edit))
-            faults += [f"{name}: it has no line '{word}: ..'" for word in changes.TOLD if not words.get(word)]
-            if any("|" in text for text in words.values()):
-                faults.append(f"{name}: a word has a |, which a table cannot show")
-            cells = [f"`{wrong_bodies.name_of(edit)}`", place, *(words.get(word, "") for word in changes.TOLD)]
-            yield f"| {' | '.join(cells)} |"
+def row(crate: str, place: str, path: str, faults: list[str]) -> str:
+    """The line of an edit in the table of its crate. What is wrong with it is added to the faults."""
+    name, words = wrong_bodies.name_of(path), words_of(text_of(path))
+    faults += [f"{crate}/{name}: it has no line '{word}: ..'" for word in changes.TOLD if not words.get(word)]
+    if any("|" in text for text in words.values()):
+        faults.append(f"{crate}/{name}: a word has a |, which a table cannot show")
+    return f"| {' | '.join([f'`{name}`', place, *(words.get(word, '') for word in changes.TOLD)])} |"
 
 
 def by_name(faults: list[str]) -> str:
     """The table of the bodies that are asked for first. One without an edit is added to the faults."""
     places: dict[str, list[str]] = {name: [] for name in ASKED}
-    for crate in crates.listed():
-        for folder, place in PLACES:
-            for edit in wrong_bodies.edits(crate, folder):
-                name = wrong_bodies.name_of(edit)
-                if name in places:
-                    places[name].append(f"`{crate}` ({place})")
+    for crate, place, path in edits():
+        if wrong_bodies.name_of(path) in places:
+            places[wrong_bodies.name_of(path)].append(f"`{crate}` ({place})")
     faults += [f"{name}: there is no such edit" for name, found in places.items() if not found]
     lines = [f"| `{name}` | {', '.join(found)} |" for name, found in places.items()]
     lines += [f"| `{name}` | {test} |" for name, test in BY_TESTS.items()]
@@ -113,12 +92,7 @@ def by_name(faults: list[str]) -> str:
 
 def would_do(faults: list[str]) -> str:
     """The table of what wrong bodies would do. One without an edit is added to the faults."""
-    known = {
-        f"{crate}/{wrong_bodies.name_of(edit)}"
-        for crate in crates.listed()
-        for folder, _ in PLACES
-        for edit in wrong_bodies.edits(crate, folder)
-    }
+    known = {f"{crate}/{wrong_bodies.name_of(path)}" for crate, _, path in edits()}
     told = []
     for piece in text_of(SHOWN).strip().split("\n\n"):
         name, _, rest = piece.partition("\n")
@@ -142,19 +116,13 @@ def would_do(faults: list[str]) -> str:
 
 def whole_page() -> tuple[str, list[str]]:
     """The page, and what is wrong with the edits."""
-    parts, counts = [HEAD], {place: 0 for _, place in PLACES}
-    faults: list[str] = []
-    for crate in crates.listed():
-        lines = list(rows(crate, faults))
-        for place in counts:
-            counts[place] += sum(line.split(" | ")[1] == place for line in lines)
-        if lines:
-            head = [f"## `{crate}`\n", "| Wrong body | Tried | What it makes wrong | Refused by |", "|---|---|---|---|"]
-            parts.append("\n".join([*head, *lines, ""]))
-    parts.append(by_name(faults))
-    parts.append(would_do(faults))
-    parts.insert(1, f"There are {counts['gate']} in the gate and {counts['beside']} beside it.\n")
-    return "\n".join(parts), faults
+    counts, faults = collections.Counter(place for _, place, _ in edits()), list[str]()
+    parts = [f"There are {counts['gate']} in the gate and {counts['beside']} beside it.\n"]
+    for crate, those in itertools.groupby(edits(), lambda edit: edit[0]):
+        head = [f"## `{crate}`\n", "| Wrong body | Tried | What it makes wrong | Refused by |", "|---|---|---|---|"]
+        parts.append("\n".join([*head, *(row(*edit, faults) for edit in those), ""]))
+    told = "\n".join([*parts, by_name(faults), would_do(faults)])
+    return page.between(text_of(PAGE), MARKS, told.rstrip("\n"))[0], faults
 
 
 def main() -> int:
