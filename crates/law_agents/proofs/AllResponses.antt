@@ -1,9 +1,7 @@
 -- All responses of a job: whom it asked, whom it asks, and how many responses it took.
-use Rattle.law_agents.proofs.Vocabulary.{◌≡◌, ℕ, ◌+◌, ◌*◌, Bool, true, false, cond, List, [], ◌∷◌, ◌++◌, length, Option, Some, None, refl, sym, ap, subst, ◌∙◌, arith, ◌==◌, ◌&&◌, nat_lt, false≢true, none-some, Configuration, Service, Lock}
-use Rattle.law_agents.proofs.Vocabulary.{Request, Reply, forgotten_has, Response, Replied, Lacked, Job, Transaction, Sweep, home_of, Fixed, TransactionRun, Sweeping, Listing, Resolving, Telling, Breaking, SweepRun, Doing, Running}
-use Rattle.law_agents.proofs.Vocabulary.{RunningSweep, After, GoesOn, Ends, Agent, Event, Take, Forget, next_in, next_of, take_in, take, begin, started, forget, is_idle, has_sense, max_jobs, after_all, Exchange, exchange_of, exchanges}
-use Rattle.law_agents.proofs.Vocabulary.{steps_in}
-use Rattle.rep_core.specs.declared.reply.Reply.TheVariants as reply
+use Rattle.law_agents.proofs.Vocabulary.{◌≡◌, ℕ, ◌+◌, ◌*◌, Bool, true, false, cond, List, [], ◌∷◌, ◌++◌, length, Option, Some, None, refl, ap, subst, ◌∙◌, arith, ◌&&◌, nat_lt, false≢true, Configuration, Service, Lock, Request, forgotten_has}
+use Rattle.law_agents.proofs.Vocabulary.{Response, Job, Transaction, Sweep, Fixed, TransactionRun, Sweeping, SweepRun, Doing, Running, RunningSweep, After, Agent, Event, Take, Forget, next_in, next_of, take_in, take, begin, started, forget, is_idle}
+use Rattle.law_agents.proofs.Vocabulary.{has_sense, max_jobs, after_all, Exchange, exchange_of, exchanges, steps_in}
 use Rattle.txn_core.specs.Sweeps as sweep
 use Rattle.txn_core.specs.Agents as agents
 use Rattle.law_agents.proofs.Walk.{Goes, InPhase, CacheFine, Goes', l_execute}
@@ -13,9 +11,7 @@ use Rattle.law_agents.proofs.Words.{ResponseSo, AsksSo, l_response, phase_asks}
 
 idle_taken : (fixed : Fixed) (agent : Agent) (response : Response) (doing : Option Doing) (asked : Option (ℕ × Request)) → agent.doing ≡ doing → next_in fixed doing ≡ asked
     → doing ≡ None → (take_in fixed agent response doing asked).agent ≡ agent
-idle_taken fixed agent response None (Some asked) was is none = absurd (none-some asked is)
-idle_taken fixed agent response None None was is none = refl
-idle_taken fixed agent response (Some doing) asked was is none = absurd (none-some doing (sym none))
+idle_taken fixed agent response doing asked h5 h6 h7 = search arith
 
 idle_stays : (fixed : Fixed) (agent : Agent) (events : List Event) → agent.doing ≡ None → (after_all fixed agent events).doing ≡ None
 idle_stays fixed agent [] none = none
@@ -24,16 +20,11 @@ idle_stays fixed agent (Take response ∷ events) none =
     idle_stays fixed (take fixed agent response).agent events (ap (λ (agent : Agent). agent.doing) (idle_taken fixed agent response agent.doing (next_of fixed agent) refl refl none) ∙ none)
 
 pub busy_before : (fixed : Fixed) (agent : Agent) (events : List Event) → is_idle (after_all fixed agent events).doing ≡ false → is_idle agent.doing ≡ false
-busy_before fixed agent events busy = of agent.doing refl
-  where
-    of : (doing : Option Doing) → agent.doing ≡ doing → is_idle doing ≡ false
-    of (Some doing) was = refl
-    of None was = absurd (false≢true (sym busy ∙ ap is_idle (idle_stays fixed agent events was)))
+busy_before fixed agent events busy = search (false≢true, idle_stays, arith)
 
 -- it took as many responses as it was answered requests
 exchanged : (asked : Option (ℕ × Request)) (response : Response) → (asked ≡ None → ⊥) → length (exchange_of asked response) ≡ 1
-exchanged (Some asked) response some = refl
-exchanged None response some = absurd (some refl)
+exchanged asked response h2 = search arith
 
 pub length_append : (past later : List Exchange) → length (past ++ later) ≡ length past + length later
 length_append [] later = omega arith
@@ -64,50 +55,18 @@ module _ (fixed : Fixed) (V : Configuration → Type 0) (S : ℕ → Type 0) (go
   RoundSo after = InDoing (agents.left RunningSweep after)
 
   on_so : (sweep_run : SweepRun) (locks : List Lock) → S sweep_run.server → RoundSo (sweep.sweep_on sweep_run locks)
-  on_so sweep_run [] so = tt
-  on_so sweep_run (lock ∷ locks) so = so
-
-  answer_so : (service : Service) (sweep_run : SweepRun) (now : Sweeping) (said : Reply) → S sweep_run.server → RoundSo (sweep.after_answer service sweep_run now said)
-  answer_so service sweep_run Listing said so = of said
-    where
-      of : (said : Reply) → RoundSo (sweep.after_answer service sweep_run Listing said)
-      of (reply.Locked locks) = on_so sweep_run (sweep.rising locks) so
-      of other = tt
-  answer_so service sweep_run (Resolving t left) said so = of said
-    where
-      other : RoundSo (cond (home_of service t == sweep_run.server) (sweep.lost sweep_run) (sweep.sweep_on (record sweep_run { left = sweep_run.left + 1 }) left))
-      other = elim (home_of service t == sweep_run.server) as (λ b. RoundSo (cond b (sweep.lost sweep_run) (sweep.sweep_on (record sweep_run { left = sweep_run.left + 1 }) left))) [
-        | true ↦ tt
-        | false ↦ on_so (record sweep_run { left = sweep_run.left + 1 }) left so
-      ]
-
-      of : (said : Reply) → RoundSo (sweep.after_answer service sweep_run (Resolving t left) said)
-      of (reply.Verdict v) = so
-      of another = other
-  answer_so service sweep_run (Telling t v left) said so = of said
-    where
-      of : (said : Reply) → RoundSo (sweep.after_answer service sweep_run (Telling t v left) said)
-      of reply.Done = on_so (record sweep_run { finished = sweep_run.finished + 1 }) left so
-      of other = tt
-  answer_so service sweep_run (Breaking lock left) said so = of said
-    where
-      of : (said : Reply) → RoundSo (sweep.after_answer service sweep_run (Breaking lock left) said)
-      of reply.Done = on_so (record sweep_run { broken = sweep_run.broken + 1 }) left so
-      of other = tt
+  on_so sweep_run locks h2 = search arith
 
   round_so : (service : Service) (sweep_run : SweepRun) (server : ℕ) (response : Response) → S sweep_run.server → RoundSo (sweep.after_response service sweep_run server response)
-  round_so service sweep_run server (Replied said) so = answer_so service sweep_run sweep_run.now said so
-  round_so service sweep_run server (Lacked lacked) so = tt
+  round_so service sweep_run server response h4 = search arith
 
   round_asks : (sweep_run : SweepRun) (now : Sweeping) → S sweep_run.server → AsksSo fixed V S goes (Some (sweep.asked_now fixed.service sweep_run now))
-  round_asks sweep_run (Resolving t left) so = goes.home t
-  round_asks sweep_run other so = so
+  round_asks sweep_run now h2 = search arith
 
   -- ---- one response
 
   left_so : (after : After TransactionRun) → Goes' fixed V S goes after → InDoing (agents.left Running after)
-  left_so (GoesOn txn_run) so = so
-  left_so (Ends ending) so = tt
+  left_so after h1 = search arith
 
   abbrev AskedSo : Option (ℕ × Request) → Response → Type 0
   AskedSo asked response = AllSo (exchange_of asked response)
@@ -117,24 +76,20 @@ module _ (fixed : Fixed) (V : Configuration → Type 0) (S : ℕ → Type 0) (go
   take_kept agent response (Some (Running running)) (Some asked) was is kept so =
       let leaves = l_response fixed V S goes running.task agent.cache running.suites running.phase asked.0 asked.1 response kept.cached (subst InDoing was kept.doing) is so.0 in
       record { cached = leaves.0; doing = left_so _ leaves.1 }
-  take_kept agent response (Some (RunningSweep sweep_run)) (Some asked) was is kept so =
-      record { cached = kept.cached; doing = round_so fixed.service sweep_run asked.0 response (subst InDoing was kept.doing) }
+  take_kept agent response (Some (RunningSweep sweep_run)) (Some asked) was is kept so = search (round_so, arith)
   take_kept agent response (Some (RunningSweep sweep_run)) None was is kept so = kept
   take_kept agent response None (Some asked) was is kept so = kept
   take_kept agent response other None was is kept so = kept
 
   -- whoever is not idle asks
   asks_in : (doing : Option Doing) → InDoing doing → is_idle doing ≡ false → AsksSo fixed V S goes (next_in fixed doing)
-  asks_in (Some (Running txn_run)) so busy = phase_asks fixed V S goes txn_run.task txn_run.suites txn_run.phase so
-  asks_in (Some (RunningSweep sweep_run)) so busy = round_asks sweep_run sweep_run.now so
-  asks_in None so busy = absurd (false≢true (sym busy))
+  asks_in doing h1 h2 = search (phase_asks, round_asks, false≢true, arith)
 
   pub asks_now : (agent : Agent) → Kept agent → is_idle agent.doing ≡ false → AsksSo fixed V S goes (next_of fixed agent)
   asks_now agent kept busy = asks_in agent.doing kept.doing busy
 
   idle_asks : (doing : Option Doing) (asked : ℕ × Request) → next_in fixed doing ≡ Some asked → is_idle doing ≡ false
-  idle_asks (Some doing) asked is = refl
-  idle_asks None asked is = absurd (none-some asked is)
+  idle_asks doing asked h2 = search arith
 
   pub whom_now : (agent : Agent) (asked : ℕ × Request) → Kept agent → next_of fixed agent ≡ Some asked → S asked.0
   whom_now agent asked kept is = subst (AsksSo fixed V S goes) is (asks_now agent kept (idle_asks agent.doing asked is))
@@ -153,8 +108,7 @@ module _ (fixed : Fixed) (V : Configuration → Type 0) (S : ℕ → Type 0) (go
   forget_kept agent site kept = record { cached = λ entry has. kept.cached entry (forgotten_has site agent.cache entry has).0; doing = kept.doing }
 
   one_asks : (agent : Agent) (response : Response) → Kept agent → (asked : Option (ℕ × Request)) → next_of fixed agent ≡ asked → AllAsk (exchange_of asked response)
-  one_asks agent response kept (Some asked) is = (whom_now agent asked kept is, tt)
-  one_asks agent response kept None is = tt
+  one_asks agent response h2 asked h4 = search (whom_now, arith)
 
   pub record Went (agent : Agent) (events : List Event) : Type 0 where
     pub kept : Kept (after_all fixed agent events)
@@ -162,8 +116,7 @@ module _ (fixed : Fixed) (V : Configuration → Type 0) (S : ℕ → Type 0) (go
     pub steps : is_idle (after_all fixed agent events).doing ≡ false → length (exchanges fixed agent events) ≡ steps_in events
 
   asks_some : (asked : Option (ℕ × Request)) → AsksSo fixed V S goes asked → asked ≡ None → ⊥
-  asks_some (Some asked) so none = none-some asked (sym none)
-  asks_some None so none = so
+  asks_some asked h1 h2 = search arith
 
   pub went : (agent : Agent) (events : List Event) → Kept agent → AllSo (exchanges fixed agent events) → Went agent events
   went agent [] kept so = record { kept = kept; asked = tt; steps = λ busy. refl }
@@ -176,11 +129,7 @@ module _ (fixed : Fixed) (V : Configuration → Type 0) (S : ℕ → Type 0) (go
       record {
         kept = rest.kept;
         asked = asks_both (exchange_of (next_of fixed agent) response) (exchanges fixed (take fixed agent response).agent events) (one_asks agent response kept (next_of fixed agent) refl) rest.asked;
-        steps = λ busy.
-            let one = exchanged (next_of fixed agent) response (asks_some (next_of fixed agent) (asks_now agent kept (busy_before fixed agent (Take response ∷ events) busy))) in
-            let others = rest.steps busy in
-            let sum = length_append (exchange_of (next_of fixed agent) response) (exchanges fixed (take fixed agent response).agent events) in
-            omega (arith, one, others, sum);
+        steps = search (exchanged, asks_some, asks_now, busy_before, length_append, arith);
       }
 
   -- ---- the begin
@@ -190,13 +139,10 @@ module _ (fixed : Fixed) (V : Configuration → Type 0) (S : ℕ → Type 0) (go
       of (is_idle agent.doing && has_sense fixed job && nat_lt agent.count max_jobs) refl
     where
       at : (doing : Option Doing) → is_idle doing ≡ true → InDoing doing
-      at None idle = tt
-      at (Some doing) idle = absurd (false≢true idle)
+      at doing h1 = search (false≢true, arith)
 
       sense : (a b c : Bool) → (a && b && c) ≡ true → b ≡ true
-      sense true true c is = refl
-      sense true false c is = cc
-      sense false b c is = cc
+      sense a b c h3 = search arith
 
       by : (job : Job) → has_sense fixed job ≡ true → Kept (record (started fixed agent job) { count = agent.count + 1 })
       by (Transaction caller site ops) is =

@@ -1,10 +1,8 @@
 -- The votes that a transaction sets are those that it may.
-use Rattle.law_agents.proofs.Vocabulary.{◌≡◌, ℕ, Bool, true, false, cond, List, [], ◌∷◌, Option, Some, None, Ok, Err, refl, subst, Configuration, Identity, Answer, Op, Service, lists_unknown, known_votes, votes_of_new, Row, Edit, SetVotes}
-use Rattle.law_agents.proofs.Vocabulary.{Make, Known, known_rows, Done, exec_of, known_licensed}
+use Rattle.law_agents.proofs.Vocabulary.{◌≡◌, ℕ, false, List, [], ◌∷◌, Option, Ok, Configuration, Identity, Answer, Op, Service, lists_unknown, Row, Edit, SetVotes, arith, Make, Known, known_rows, Done, exec_of, known_licensed}
 use Rattle.file_ops.specs.declared.operation.Action.{Action}
 use Rattle.file_exec.specs.Following.{Edits, Ended}
-use Rattle.file_exec.specs.Licensed.{votes_given, Licensed, writes_bytes, changes_lists, changes_votes, adds_name, makes_row, drops_name, AllLicensed}
-use Rattle.file_ops.specs.declared.refusal.Why.TheVariants as why
+use Rattle.file_exec.specs.Licensed.{Licensed, AllLicensed}
 
 -- an edit sets no votes but such
 abbrev pub Sets : (Configuration → Type 0) → Edit → Type 0
@@ -19,24 +17,8 @@ AllSet W (e ∷ edits) = Sets W e.1 × AllSet W edits
 
 -- votes that a transaction may set: those that list no server but known ones, and C0
 module _ (W : Configuration → Type 0) (service : Service) (may : (votes : Configuration) → lists_unknown service votes ≡ false → W votes) (c0 : W service.c0) where
-  of_known : (given votes : Configuration) → known_votes service given ≡ Ok votes → W votes
-  of_known given votes is = of (lists_unknown service given) refl is
-    where
-      of : (b : Bool) → lists_unknown service given ≡ b → cond b (Err why.UnknownServer) (Ok given) ≡ Ok votes → W votes
-      of true _ is = cc
-      of false none is = let same : given ≡ votes = cc in subst W same (may given none)
-
-  of_new : (given : Option Configuration) (votes : Configuration) → votes_of_new service given ≡ Ok votes → W votes
-  of_new (Some given) votes is = of_known given votes is
-  of_new None votes is = let same : service.c0 ≡ votes = cc in subst W same c0
-
   sets : {known : Known} {rows : ℕ → Option Row} {caller : Identity} {action : Action} {number : ℕ} {edits : Edits} {suite : ℕ} {edit : Edit} → Licensed service known rows caller action number edits suite edit → Sets W edit
-  sets (writes_bytes _ _ _ _) = tt
-  sets (changes_lists _ _ _) = tt
-  sets (changes_votes {given = given} {votes = votes} _ _ _ _ are) = of_known given votes are
-  sets (adds_name _ _ _) = tt
-  sets {action = action} (makes_row {votes = votes} _ _ _ _ _ are) = of_new (votes_given action) votes are
-  sets (drops_name _ _) = tt
+  sets h0 = search arith
 
   all_set : (known : Known) (rows : ℕ → Option Row) (t : ℕ) (caller : Identity) (ops : List Op) (edits : Edits) → AllLicensed service known rows t caller ops edits → AllSet W edits
   all_set known rows t caller ops [] all = tt

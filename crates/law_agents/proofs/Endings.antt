@@ -1,11 +1,9 @@
 -- A transaction ends as its home told.
-use Rattle.law_agents.proofs.Vocabulary.{◌≡◌, ℕ, ◌+◌, true, false, cond, List, [], ◌∷◌, ◌++◌, Option, Some, None, refl, sym, ap, subst, nat_lt, ◌&&◌, same_Some, Identity, Op, is_prepared, Request, Verdict, Reply, Cache, Suites, suite_of}
-use Rattle.law_agents.proofs.Vocabulary.{parts_at, Response, Replied, Lacked, Cause, Lost, Ending, Undecided, Job, Transaction, Fixed, Task, home_of, Proposal, Phase, Gathering, Fetching, Widening, Preparing, Deciding, Finishing}
-use Rattle.law_agents.proofs.Vocabulary.{TransactionRun, Doing, Running, RunningSweep, After, GoesOn, Ends, lack_cause, tell_end, give_up, prepare, locked_at, prepared, after_response, request_in, changes_of, decision_of, verdict_in}
-use Rattle.law_agents.proofs.Vocabulary.{ending_by, cause_of_abort, Agent, Event, next_in, next_of, end_of, take_in, begin, started, is_idle, has_sense, max_jobs, after_all, Exchange, exchange_of, of_job, is_decide, said_by, told_verdict}
-use Rattle.law_agents.proofs.Vocabulary.{task_of, asks_same, asked_as, fetched_as, exchanges-take, IsEarly, goes_response, goes_execute}
+use Rattle.law_agents.proofs.Vocabulary.{◌≡◌, ℕ, ◌+◌, true, false, cond, List, [], ◌∷◌, ◌++◌, Option, Some, None, refl, sym, subst, nat_lt, ◌&&◌, Identity, Op, Request, Verdict, Reply, Cache, Suites, arith, Response, Replied, Lacked, Cause, Ending}
+use Rattle.law_agents.proofs.Vocabulary.{Undecided, Job, Transaction, Fixed, Task, Proposal, Phase, Gathering, Fetching, Widening, Preparing, Deciding, Finishing, TransactionRun, Doing, Running, RunningSweep, After, GoesOn, Ends, lack_cause}
+use Rattle.law_agents.proofs.Vocabulary.{tell_end, give_up, prepare, locked_at, prepared, after_response, request_in, ending_by, Agent, Event, next_in, end_of, take_in, begin, started, is_idle, has_sense, max_jobs, after_all, Exchange, exchange_of}
+use Rattle.law_agents.proofs.Vocabulary.{of_job, is_decide, said_by, told_verdict, task_of, asks_same, asked_as, fetched_as, exchanges-take, IsEarly, goes_response, goes_execute}
 use Rattle.law_agents.specs.Endings.{EndsBy, EndsAsTold}
-use Rattle.rep_core.specs.declared.request.Request.TheVariants as request
 use Rattle.rep_core.specs.declared.reply.Verdict.TheVariants as verdict
 use Rattle.txn_core.specs.Agents as agents
 use Rattle.law_agents.proofs.Along.{always}
@@ -21,35 +19,25 @@ LeftIs v (GoesOn running) = PhaseIs v running.phase
 LeftIs v (Ends ending) = EndsBy v ending
 
 end_is : (task : Task) (cache : Cache) (suites : Suites) (v : Verdict) (ending : Ending) (servers : List ℕ) → EndsBy v ending → LeftIs v (tell_end task cache suites v ending servers).after
-end_is task cache suites v ending [] by = by
-end_is task cache suites v ending (server ∷ servers) by = (refl, by)
+end_is task cache suites v ending servers h6 = search arith
 
 given_up : (task : Task) (cache : Cache) (suites : Suites) (cause : Cause) → LeftIs verdict.Aborted (give_up task cache suites cause).after
 given_up task cache suites cause = end_is task cache suites verdict.Aborted (Undecided cause) (locked_at suites) (cause, refl)
 
 prepare_is : (task : Task) (cache : Cache) (suites : Suites) (outcome : Proposal) (servers : List ℕ) → LeftIs verdict.Aborted (prepare task cache suites outcome servers).after
-prepare_is task cache suites outcome [] = refl
-prepare_is task cache suites outcome (server ∷ servers) = refl
+prepare_is task cache suites outcome servers = search arith
 
 early : (task : Task) (suites : Suites) (phase : Phase) → IsEarly phase → LeftIs verdict.Aborted (GoesOn (record { task = task; suites = suites; phase = phase }))
-early task suites (Preparing left outcome) is = absurd is
-early task suites (Deciding outcome) is = absurd is
-early task suites (Finishing servers told ending) is = absurd is
-early task suites other is = refl
+early task suites phase h3 = search arith
 
 prepares : (task : Task) (cache : Cache) (suites : Suites) (outcome : Proposal) → LeftIs verdict.Aborted (prepare task cache suites outcome (locked_at suites)).after
 prepares task cache suites outcome = prepare_is task cache suites outcome (locked_at suites)
 
 prepared_is : (task : Task) (cache : Cache) (suites : Suites) (outcome : Proposal) (server : ℕ) (left : List ℕ) (said : Reply) → LeftIs verdict.Aborted (prepared task cache suites outcome server left said).after
-prepared_is task cache suites outcome server left said =
-    elim (is_prepared said) as (λ b. LeftIs verdict.Aborted (cond b (prepare task cache suites outcome left) (give_up task cache suites (Lost server))).after) [
-      | true ↦ prepare_is task cache suites outcome left
-      | false ↦ given_up task cache suites (Lost server)
-    ]
+prepared_is task cache suites outcome server left said = search (prepare_is, given_up, arith)
 
 by_verdict : (v : Verdict) (cause : Cause) → EndsBy v (ending_by v cause)
-by_verdict verdict.Aborted cause = (cause, refl)
-by_verdict other cause = refl
+by_verdict v cause = search arith
 
 -- ---- what is told
 
@@ -58,8 +46,7 @@ then_told asked heard v = cond (is_decide asked) (said_by heard v) v
 
 -- of anything but a Decide
 calm : (asked : Request) (heard : Response) (v : Verdict) (after : After TransactionRun) → is_decide asked ≡ false → v ≡ verdict.Aborted → LeftIs verdict.Aborted after → LeftIs (then_told asked heard v) after
-calm asked heard v after other aborted is =
-    subst (λ b. LeftIs (cond b (said_by heard v) v) after) (sym other) (subst (λ v. LeftIs v after) (sym aborted) is)
+calm asked heard v after other aborted is = search arith
 
 module _ (fixed : Fixed) (task : Task) (cache : Cache) (suites : Suites) where
   abbrev then' : Phase → ℕ → Request → Response → After TransactionRun
@@ -69,37 +56,22 @@ module _ (fixed : Fixed) (task : Task) (cache : Cache) (suites : Suites) where
   early_is phase server asked heard is = goes_response task (LeftIs verdict.Aborted) (early task) (given_up task) (prepares task) fixed cache suites phase server asked heard is
 
   decide_is : (outcome : Proposal) (server : ℕ) (asked : Request) (heard : Response) → LeftIs (said_by heard verdict.Aborted) (then' (Deciding outcome) server asked heard)
-  decide_is outcome server asked (Replied said) =
-      end_is task cache suites (verdict_in said verdict.Aborted) (ending_by (verdict_in said verdict.Aborted) (cause_of_abort said)) (locked_at suites) (by_verdict (verdict_in said verdict.Aborted) (cause_of_abort said))
+  decide_is outcome server asked (Replied said) = search (end_is, by_verdict, arith)
   decide_is outcome server asked (Lacked lacked) = given_up task cache suites (lack_cause server lacked)
 
   prepare_heard : (now : ℕ) (left : List ℕ) (outcome : Proposal) (server : ℕ) (asked : Request) (heard : Response) → LeftIs verdict.Aborted (then' (Preparing (now ∷ left) outcome) server asked heard)
-  prepare_heard now left outcome server asked (Replied said) = prepared_is task cache suites outcome server left said
-  prepare_heard now left outcome server asked (Lacked lacked) = given_up task cache suites (lack_cause server lacked)
+  prepare_heard now left outcome server asked heard = search (prepared_is, given_up, arith)
 
   finish_heard : (now : ℕ) (left : List ℕ) (v : Verdict) (ending : Ending) (server : ℕ) (asked : Request) (heard : Response) → EndsBy v ending → LeftIs v (then' (Finishing (now ∷ left) v ending) server asked heard)
-  finish_heard now left v ending server asked (Replied said) by = end_is task cache suites v ending left by
-  finish_heard now left v ending server asked (Lacked lacked) by = end_is task cache suites v ending left by
+  finish_heard now left v ending server asked heard h7 = search arith
 
   heard_is : (phase : Phase) (server : ℕ) (asked : Request) (heard : Response) (v : Verdict) → request_in fixed task suites phase ≡ Some (server, asked) → PhaseIs v phase → LeftIs (then_told asked heard v) (then' phase server asked heard)
-  heard_is (Gathering number) server asked heard v is so =
-      calm asked heard v (then' (Gathering number) server asked heard) (asked_as is_decide false task number (suite_of suites number) server asked (λ mode. refl) refl is) so (early_is (Gathering number) server asked heard tt)
-  heard_is (Fetching number) server asked heard v is so =
-      calm asked heard v (then' (Fetching number) server asked heard) (fetched_as is_decide false task number (suite_of suites number) server asked refl is) so (early_is (Fetching number) server asked heard tt)
-  heard_is (Widening (number ∷ left) granted) server asked heard v is so =
-      calm asked heard v (then' (Widening (number ∷ left) granted) server asked heard)
-      (asked_as is_decide false task number (suite_of suites number) server asked (λ mode. refl) refl is) so (early_is (Widening (number ∷ left) granted) server asked heard tt)
-  heard_is (Preparing (now ∷ left) outcome) server asked heard v is so =
-      let same = asks_same now server (request.Prepare task.t (parts_at suites (changes_of outcome) now)) asked is in
-      calm asked heard v (then' (Preparing (now ∷ left) outcome) server asked heard) (ap is_decide (sym same)) so (prepare_heard now left outcome server asked heard)
-  heard_is (Deciding outcome) server asked heard v is so =
-      let same = asks_same (home_of fixed.service task.t) server (request.Decide task.t (decision_of task outcome)) asked is in
-      subst (λ b. LeftIs (cond b (said_by heard v) v) (then' (Deciding outcome) server asked heard)) (ap is_decide same)
-      (subst (λ v. LeftIs (said_by heard v) (then' (Deciding outcome) server asked heard)) (sym so) (decide_is outcome server asked heard))
-  heard_is (Finishing (now ∷ left) told ending) server asked heard v is so =
-      let same = asks_same now server (request.Finish task.t told) asked is in
-      subst (λ b. LeftIs (cond b (said_by heard v) v) (then' (Finishing (now ∷ left) told ending) server asked heard)) (ap is_decide same)
-      (subst (λ w. LeftIs v (then' (Finishing (now ∷ left) w ending) server asked heard)) (sym so.0) (finish_heard now left v ending server asked heard so.1))
+  heard_is (Gathering number) server asked heard v is so = search (calm, asked_as, early_is, arith)
+  heard_is (Fetching number) server asked heard v is so = search (calm, fetched_as, early_is, arith)
+  heard_is (Widening (number ∷ left) granted) server asked heard v is so = search (calm, asked_as, early_is, arith)
+  heard_is (Preparing (now ∷ left) outcome) server asked heard v is so = search (asks_same, calm, prepare_heard, arith)
+  heard_is (Deciding outcome) server asked heard v is so = search (asks_same, decide_is, arith)
+  heard_is (Finishing (now ∷ left) told ending) server asked heard v is so = search (asks_same, finish_heard, arith)
   heard_is other server asked heard v is so = cc
 
 -- ---- after all events
@@ -117,15 +89,13 @@ EndsSo past (Some (RunningSweep sweeping)) = ⊥
 EndsSo past None = Unit {0}
 
 left_so : (past : List Exchange) (after : After TransactionRun) → LeftIs (told_by past) after → EndsSo past (agents.left Running after)
-left_so past (GoesOn running) is = is
-left_so past (Ends ending) is = tt
+left_so past after h2 = search arith
 
 left_pushed : (past : List Exchange) (server : ℕ) (asked : Request) (heard : Response) (after : After TransactionRun) → LeftIs (then_told asked heard (told_by past)) after → LeftIs (told_by (push past server asked heard)) after
 left_pushed past server asked heard after is = subst (λ v. LeftIs v after) (sym (told_push verdict.Aborted past server asked heard)) is
 
 end_by : (v : Verdict) (after : After TransactionRun) (ending : Ending) → LeftIs v after → end_of after ≡ Some ending → EndsBy v ending
-end_by v (GoesOn running) ending is ends = cc
-end_by v (Ends by) ending is ends = subst (EndsBy v) (same_Some by ending ends) is
+end_by v after ending h3 h4 = search arith
 
 module _ (fixed : Fixed) (agent : Agent) (caller : Identity) (site : ℕ) (ops : List Op) (idle : is_idle agent.doing ≡ true) where
   abbrev job : Job
@@ -145,9 +115,7 @@ module _ (fixed : Fixed) (agent : Agent) (caller : Identity) (site : ℕ) (ops :
 
   stays : (events : List Event) (heard : Response) (doing : Doing) (server : ℕ) (asked : Request) → (at events).doing ≡ Some doing → next_in fixed (Some doing) ≡ Some (server, asked) → EndsSo (past_of events) (Some doing)
       → EndsSo (push (past_of events) server asked heard) (take_in fixed (at events) heard (Some doing) (Some (server, asked))).agent.doing
-  stays events heard (RunningSweep sweeping) server asked was is so = absurd so
-  stays events heard (Running running) server asked was is so =
-      left_so (push (past_of events) server asked heard) (after_response fixed running (at events).cache server asked heard).after (told_so events heard running server asked is so)
+  stays events heard doing server asked h5 h6 h7 = search (left_so, push, told_so, arith)
 
   begins : EndsSo [] (begin fixed agent job).doing
   begins =
@@ -157,8 +125,7 @@ module _ (fixed : Fixed) (agent : Agent) (caller : Identity) (site : ℕ) (ops :
       ]
     where
       of : (doing : Option Doing) → is_idle doing ≡ true → EndsSo [] doing
-      of None idle = tt
-      of (Some doing) idle = cc
+      of doing h1 = search arith
 
   ends_so : (events : List Event) → EndsSo (past_of events) (at events).doing
   ends_so events = always fixed agent job EndsSo stays begins events
@@ -173,8 +140,4 @@ module _ (fixed : Fixed) (agent : Agent) (caller : Identity) (site : ℕ) (ops :
   ends events heard ending other None is so by = cc
 
 pub ends_as_told : EndsAsTold
-ends_as_told fixed agent caller site ops events told ending idle by =
-    let job = Transaction caller site ops in
-    let now = after_all fixed (begin fixed agent job) events in
-    subst (λ past. EndsBy (told_verdict verdict.Aborted past) ending) (sym (exchanges-take fixed (begin fixed agent job) events told))
-    (ends fixed agent caller site ops idle events told ending now.doing (next_of fixed now) refl (ends_so fixed agent caller site ops idle events) by)
+ends_as_told fixed agent caller site ops events told ending idle by = search (exchanges-take, ends, ends_so, arith)

@@ -1,10 +1,9 @@
 -- The laws: an agent asks until its job is at an end, it asks whom it knows, and so the job is at an end in time.
-use Rattle.law_agents.proofs.Vocabulary.{◌≡◌, inl, inr, ℕ, ◌+◌, ◌*◌, ◌<◌, ◌%◌, ◌/◌, Bool, true, false, cond, List, [], ◌∷◌, ◌++◌, length, Option, Some, None, refl, sym, ap, subst, ◌∙◌, arith, ◌==◌, ◌&&◌, ◌||◌, nat_lt, nat_le, is_some}
-use Rattle.law_agents.proofs.Vocabulary.{IsSome, Contains, list_any, list_all, eq-eqb, false≢true, nat_tests, All-contains, Representative, Configuration, IsValid, Request, Reply, Has, any_has, contains_from, Entry, Cache, Response}
-use Rattle.law_agents.proofs.Vocabulary.{Replied, Lacked, Job, Transaction, Sweep, Fixed, home_of, Doing, Running, RunningSweep, Agent, Event, Take, Forget, next_in, next_of, take_in, take, begin, started, forget, is_idle, has_sense}
-use Rattle.law_agents.proofs.Vocabulary.{max_jobs, after_all, Exchange, exchange_of, exchanges, of_job, among, asks_only, names_of, names_only, listed, listed_in, ends_in_time, sweep_ends_in_time, IsNoCourse, no_course, exchanges-take}
-use Rattle.law_agents.proofs.Vocabulary.{agent_after, VotesAreValid, AsksUntilItEnds, names, names_in, is_known, AsksWhomItKnows, steps_in, names_next, EndsWithin, SweepEndsWithin, CachesStayValid, JobsEnd}
-use native.Mathlib.Nat.{mod-lt}
+use Rattle.law_agents.proofs.Vocabulary.{◌≡◌, inl, inr, ℕ, ◌+◌, ◌*◌, ◌<◌, Bool, true, false, List, [], ◌∷◌, ◌++◌, length, Option, Some, None, refl, sym, ap, ◌∙◌, arith, ◌==◌, ◌&&◌, ◌||◌, nat_lt, nat_le, IsSome, Contains, list_any, list_all, eq-eqb}
+use Rattle.law_agents.proofs.Vocabulary.{false≢true, nat_tests, Representative, Configuration, IsValid, Request, Reply, Has, any_has, contains_from, Entry, Cache, Response, Replied, Lacked, Job, Transaction, Sweep, Fixed, home_of, Doing, Running}
+use Rattle.law_agents.proofs.Vocabulary.{RunningSweep, Agent, Event, Take, Forget, next_in, next_of, take_in, take, begin, forget, is_idle, after_all, Exchange, exchange_of, exchanges, of_job, among, asks_only, names_of, names_only, listed}
+use Rattle.law_agents.proofs.Vocabulary.{listed_in, ends_in_time, sweep_ends_in_time, IsNoCourse, exchanges-take, agent_after, VotesAreValid, AsksUntilItEnds, names, names_in, is_known, AsksWhomItKnows, steps_in, names_next, EndsWithin}
+use Rattle.law_agents.proofs.Vocabulary.{SweepEndsWithin, CachesStayValid, JobsEnd}
 use Rattle.rep_core.specs.declared.request.Request.TheVariants as request
 use Rattle.rep_core.specs.declared.reply.Reply.TheVariants as reply
 use Rattle.rep_core.specs.declared.stamped.Lack.TheVariants as lack
@@ -16,12 +15,10 @@ use Rattle.law_agents.proofs.Words.{ResponseSo, AsksSo}
 use Rattle.law_agents.proofs.AllResponses.{AllSo, AllAsk, Kept, Went, went, begin_kept, asks_now, whom_now, length_append, busy_before}
 
 or_left : (a b : Bool) → a ≡ true → (a || b) ≡ true
-or_left true b is = refl
-or_left false b is = absurd (false≢true is)
+or_left a b h2 = search arith
 
 or_right : (a b : Bool) → b ≡ true → (a || b) ≡ true
-or_right true b is = refl
-or_right false b is = is
+or_right a b h2 = search arith
 
 -- ---- votes that may be met, and servers that may be asked: those of a set that has all that the agent knows
 
@@ -52,54 +49,25 @@ module _ (fixed : Fixed) (agent : Agent) (past : List Exchange) (valid : VotesAr
 
   reps_of : (reps : List Representative) → ((server : ℕ) → list_any (λ rep. rep.0 == server) reps ≡ true → S server) → AllReps V S reps
   reps_of [] named = tt
-  reps_of (rep ∷ reps) named = (
-    named rep.0 (or_left (rep.0 == rep.0) _ (eq-eqb rep.0 rep.0 refl)),
-    reps_of reps (λ server is. named server (or_right (rep.0 == server) _ is)),
-  )
+  reps_of (rep ∷ reps) named = search (or_left, eq-eqb, or_right, reps_of reps, arith)
 
   reps_known : (reps : List Representative) → list_any (λ rep. nat_le fixed.service.servers rep.0) reps ≡ false → AllReps V S reps
   reps_known [] none = tt
-  reps_known (rep ∷ reps) none = of (nat_le fixed.service.servers rep.0) refl none (reps_known reps)
-    where
-      under : nat_le fixed.service.servers rep.0 ≡ false → nat_lt rep.0 fixed.service.servers ≡ true
-      under is = grind (arith, nat_tests)
-
-      of : (b : Bool) → nat_le fixed.service.servers rep.0 ≡ b → (b || list_any (λ rep. nat_le fixed.service.servers rep.0) reps) ≡ false
-          → (list_any (λ rep. nat_le fixed.service.servers rep.0) reps ≡ false → AllReps V S reps) → AllReps V S (rep ∷ reps)
-      of true is none rest = absurd (false≢true (sym none))
-      of false is none rest = (there rep.0 (under is), rest none)
+  reps_known (rep ∷ reps) none = search (nat_le, nat_lt, nat_tests, false≢true, there, reps_known reps, arith)
 
   opening_named : (server : ℕ) → names fixed.service.c0 server ≡ true → S server
-  opening_named server is =
-      let has = any_has (λ (rep : Representative). rep.0 == server) fixed.service.c0.reps is in
-      let less = All-contains (λ (rep : Representative). rep.0 < fixed.service.servers) fixed.service.c0.reps has.0 valid.opening.known (contains_from fixed.service.c0.reps has.0 has.1) in
-      subst S (same has.0 has.2) (below has.0.0 less)
-    where
-      same : (rep : Representative) → (rep.0 == server) ≡ true → rep.0 ≡ server
-      same rep is = grind (arith, nat_tests)
+  opening_named server is = search (any_has, contains_from, below, nat_tests, arith)
 
   home_so : (t : ℕ) → S (home_of fixed.service t)
-  home_so t =
-      let some = valid.servers in
-      below (home_of fixed.service t) (mod-lt (t % 64 + t / 64) some)
+  home_so t = search arith
 
   pub goes : Goes fixed V S
-  goes = record {
-    some = λ votes v. (v.0.r_in_range.0, v.0.w_in_range.0);
-    names = λ votes v. reps_of votes.reps v.1;
-    opening = (valid.opening.valid, opening_named);
-    first = below 0 valid.servers;
-    home = home_so;
-    known = λ votes none. reps_known votes.reps none;
-  }
+  goes = search (reps_of, opening_named, below, home_so, reps_known, arith)
 
   -- the cache at the begin, and the replies
   any_entry : (cache : Cache) (server : ℕ) (entry : Entry) → origins.Has cache entry → names entry.prefix.votes server ≡ true → list_any (λ entry. names entry.prefix.votes server) cache ≡ true
   any_entry [] server entry has is = absurd has
-  any_entry (e ∷ cache) server entry has is = elim has [
-    | inl same ↦ or_left (names e.prefix.votes server) _ (ap (λ (entry : Entry). names entry.prefix.votes server) same ∙ is)
-    | inr rest ↦ or_right (names e.prefix.votes server) _ (any_entry cache server entry rest is)
-  ]
+  any_entry (e ∷ cache) server entry has is = search (or_left, or_right, any_entry cache server entry, arith)
 
   cache_fine : CacheFine fixed V S goes agent.cache
   cache_fine entry has = (valid.cached entry (origins.has_to agent.cache entry has), λ server is. in_cache server (any_entry agent.cache server entry has is))
@@ -112,8 +80,7 @@ module _ (fixed : Fixed) (agent : Agent) (past : List Exchange) (valid : VotesAr
       said other is = tt
 
       of : (response : Response) → one.response ≡ response → ResponseSo fixed V S goes response
-      of (Replied r) is = said r is
-      of (Lacked lacked) is = tt
+      of response h1 = search (said, arith)
 
   all_so : (rest : List Exchange) → ((one : Exchange) → Has rest one → Contains past one) → ((server : ℕ) → list_any (λ one. names_in one.response server) rest ≡ true → S server) → AllSo fixed V S goes rest
   all_so [] in' named = tt
@@ -146,11 +113,7 @@ module _ (fixed : Fixed) (agent : Agent) (job : Job) (events : List Event) (idle
   asks busy = asks_now fixed V' S goes' (agent_after fixed agent job events) way.kept busy
 
   some_asked : is_idle (agent_after fixed agent job events).doing ≡ false → IsSome (next_of fixed (agent_after fixed agent job events))
-  some_asked busy = of (next_of fixed (agent_after fixed agent job events)) (asks busy)
-    where
-      of : (asked : Option (ℕ × Request)) → AsksSo fixed V' S goes' asked → is_some asked ≡ true
-      of (Some asked) so = refl
-      of None so = absurd so
+  some_asked busy = search (asks, arith)
 
   whom : (asked : ℕ × Request) → next_of fixed (agent_after fixed agent job events) ≡ Some asked → S asked.0
   whom asked is = whom_now fixed V' S goes' (agent_after fixed agent job events) asked way.kept is
@@ -173,17 +136,14 @@ caches_stay_valid fixed agent job events entry idle valid at =
 
 of_more : (fixed : Fixed) (agent : Agent) (job : Job) (events : List Event) (asked : ℕ × Request) → next_of fixed (agent_after fixed agent job events) ≡ Some asked
     → of_job fixed agent job (events ++ Take (Lacked lack.Full) ∷ []) ≡ of_job fixed agent job events ++ record { server = asked.0; request = asked.1; response = Lacked lack.Full } ∷ []
-of_more fixed agent job events asked is =
-    exchanges-take fixed (begin fixed agent job) events (Lacked lack.Full)
-    ∙ ap (λ asked. of_job fixed agent job events ++ exchange_of asked (Lacked lack.Full)) is
+of_more fixed agent job events asked is = search (exchanges-take, arith)
 
 all_both : (p : Exchange → Bool) (past : List Exchange) (one : Exchange) → list_all p past ≡ true → p one ≡ true → list_all p (past ++ one ∷ []) ≡ true
 all_both p [] one all is = ap (λ b. b && true) is
 all_both p (first ∷ past) one all is = of (p first) all (λ all. all_both p past one all is)
   where
     of : (b : Bool) → (b && list_all p past) ≡ true → (list_all p past ≡ true → list_all p (past ++ one ∷ []) ≡ true) → (b && list_all p (past ++ one ∷ [])) ≡ true
-    of true all rest = rest all
-    of false all rest = all
+    of b h1 h2 = search arith
 
 ends_within : EndsWithin
 ends_within fixed agent caller site ops events servers suites idle valid all named next_named busy =
@@ -231,10 +191,7 @@ asked_are_known fixed agent job events servers idle valid all = asked_all (of_jo
 -- ---- sweeps
 
 take_no_course : (fixed : Fixed) (agent : Agent) (response : Response) (doing : Option Doing) (asked : Option (ℕ × Request)) → agent.doing ≡ doing → IsNoCourse doing → IsNoCourse (take_in fixed agent response doing asked).agent.doing
-take_no_course fixed agent response (Some (RunningSweep sweep_run)) (Some asked) was none = no_course (sweep.after_response fixed.service sweep_run asked.0 response)
-take_no_course fixed agent response (Some (Running txn_run)) asked was none = absurd none
-take_no_course fixed agent response None (Some asked) was none = subst IsNoCourse (sym was) tt
-take_no_course fixed agent response other None was none = subst IsNoCourse (sym was) tt
+take_no_course fixed agent response doing asked h5 h6 = search arith
 
 -- a sweep asks while it is not at an end
 sweep_asks : (fixed : Fixed) (doing : Option Doing) → IsNoCourse doing → is_idle doing ≡ false → (asked : ℕ × Request) × (next_in fixed doing ≡ Some asked)
@@ -262,19 +219,10 @@ sweeps fixed agent (Take response ∷ events) none =
     }
 
 begin_no_course : (fixed : Fixed) (agent : Agent) (server : ℕ) → is_idle agent.doing ≡ true → IsNoCourse (begin fixed agent (Sweep server)).doing
-begin_no_course fixed agent server idle =
-    elim (is_idle agent.doing && has_sense fixed (Sweep server) && nat_lt agent.count max_jobs) as (λ b. IsNoCourse (cond b (record (started fixed agent (Sweep server)) { count = agent.count + 1 }) agent).doing) [
-      | true ↦ tt
-      | false ↦ at agent.doing idle
-    ]
-  where
-    at : (doing : Option Doing) → is_idle doing ≡ true → IsNoCourse doing
-    at None idle = tt
-    at (Some doing) idle = absurd (false≢true idle)
+begin_no_course fixed agent server idle = search arith
 
 quiet : (asked : Request) → listed_in asked (Lacked lack.Full) ≡ 0
-quiet (request.Poll t suite mode) = refl
-quiet other = refl
+quiet asked = search arith
 
 listed_more : (past : List Exchange) (one : Exchange) → listed_in one.request one.response ≡ 0 → listed (past ++ one ∷ []) ≡ listed past
 listed_more [] one none = omega (arith, none)

@@ -1,8 +1,7 @@
 -- A content is fetched at the source that the suite's first quorum gave.
-use Rattle.law_agents.proofs.Vocabulary.{◌≡◌, ℕ, true, false, List, ◌∷◌, Option, Some, None, refl, sym, ap, subst, ◌∙◌, eqb-true, false≢true, same_Some, Request, ReadPoint, GatheredSuite, Suites, suite_of, parts_at, Job, home_of, Fixed}
-use Rattle.law_agents.proofs.Vocabulary.{Task, Phase, Gathering, Fetching, Widening, Preparing, Deciding, Finishing, Sweeping, Listing, Resolving, Telling, Breaking, SweepRun, Doing, Running, RunningSweep, fetched_at, fetched_for}
-use Rattle.law_agents.proofs.Vocabulary.{request_in, changes_of, decision_of, Agent, Event, next_in, begin, after_all, Exchange, of_job, asks_same, asked_as, StandsOn, self, Kept, Base_of, Started, Begins, DoingStands, stands_after}
-use Rattle.law_agents.proofs.Vocabulary.{started_is}
+use Rattle.law_agents.proofs.Vocabulary.{◌≡◌, ℕ, true, false, List, ◌∷◌, Option, Some, None, refl, sym, ap, ◌∙◌, false≢true, Request, ReadPoint, GatheredSuite, Suites, suite_of, parts_at, Job, home_of, Fixed, arith, Task, Phase, Gathering, Fetching}
+use Rattle.law_agents.proofs.Vocabulary.{Widening, Preparing, Deciding, Finishing, Sweeping, SweepRun, Doing, fetched_at, fetched_for, request_in, changes_of, decision_of, Agent, Event, next_in, Exchange, of_job, asks_same, asked_as, StandsOn, self}
+use Rattle.law_agents.proofs.Vocabulary.{Kept, Base_of, Started, Begins, DoingStands, stands_after}
 use Rattle.law_agents.specs.Fetches.{IsFetching, FetchesInOrder}
 use Rattle.txn_core.proofs.Fetches.{fetches}
 use Rattle.rep_core.specs.declared.request.Request.TheVariants as request
@@ -17,18 +16,7 @@ module _ (fixed : Fixed) (agent : Agent) (job : Job) (events : List Event) where
 
   by_first : (task : Task) (number suite server : ℕ) (asked : Request) (it : GatheredSuite) → Kept fixed task (Base_of fixed agent job events events task.site) past number it → (first : Option ReadPoint) → it.first ≡ first
       → fetched_at task number first ≡ Some (server, asked) → fetches suite asked ≡ true → IsFetching fixed agent job events server suite
-  by_first task number suite server asked it kept None was is kind = cc
-  by_first task number suite server asked it kept (Some first) was is kind =
-      let same : number ≡ suite = eqb-true number suite (ap (fetches suite) (asks_same first.source server (request.Fetch task.t number) asked is) ∙ kind) in
-      let who : first.source ≡ server = ap (λ (pair : ℕ × Request). pair.0) (same_Some (first.source, request.Fetch task.t number) (server, asked) is) in
-      let own : kept.first.first ≡ first = same_Some kept.first.first first (sym kept.first.was ∙ was) in
-      subst (IsFetching fixed agent job events server) same (record {
-        start = it.collector.start;
-        gathered = started_is fixed agent job events number it.collector.start kept.start;
-        first = kept.first.first;
-        gave = kept.first.gave;
-        at = sym who ∙ ap (λ (first : ReadPoint). first.source) (sym own);
-      })
+  by_first task number suite server asked it h6 first h8 h9 h10 = search arith
 
   by_suite : (task : Task) (number suite server : ℕ) (asked : Request) (found : Option GatheredSuite) → ((it : GatheredSuite) → found ≡ Some it → Kept fixed task (Base_of fixed agent job events events task.site) past number it)
       → fetched_for task number found ≡ Some (server, asked) → fetches suite asked ≡ true → IsFetching fixed agent job events server suite
@@ -38,11 +26,9 @@ module _ (fixed : Fixed) (agent : Agent) (job : Job) (events : List Event) where
   by_phase : (task : Task) (suites : Suites) (phase : Phase) (server suite : ℕ) (asked : Request)
       → StandsOn fixed task (Base_of fixed agent job events events task.site) (Started fixed agent job events) (Begins fixed agent job events) past suites phase
       → request_in fixed task suites phase ≡ Some (server, asked) → fetches suite asked ≡ true → IsFetching fixed agent job events server suite
-  by_phase task suites (Gathering number) server suite asked stands is kind =
-      absurd (false≢true (sym (asked_as (fetches suite) false task number (suite_of suites number) server asked (λ mode. refl) refl is) ∙ kind))
+  by_phase task suites (Gathering number) server suite asked stands is kind = search (false≢true, asked_as, fetches, arith)
   by_phase task suites (Fetching number) server suite asked stands is kind = by_suite task number suite server asked (suite_of suites number) (λ it there. stands.1 number it there) is kind
-  by_phase task suites (Widening (number ∷ left) granted) server suite asked stands is kind =
-      absurd (false≢true (sym (asked_as (fetches suite) false task number (suite_of suites number) server asked (λ mode. refl) refl is) ∙ kind))
+  by_phase task suites (Widening (number ∷ left) granted) server suite asked stands is kind = search (false≢true, asked_as, fetches, arith)
   by_phase task suites (Preparing (now ∷ left) outcome) server suite asked stands is kind = other_asked now server suite (request.Prepare task.t (parts_at suites (changes_of outcome) now)) asked refl is kind
   by_phase task suites (Deciding outcome) server suite asked stands is kind = other_asked (home_of fixed.service task.t) server suite (request.Decide task.t (decision_of task outcome)) asked refl is kind
   by_phase task suites (Finishing (now ∷ left) v ending) server suite asked stands is kind = other_asked now server suite (request.Finish task.t v) asked refl is kind
@@ -50,16 +36,10 @@ module _ (fixed : Fixed) (agent : Agent) (job : Job) (events : List Event) where
 
   by_sweep : (sweeping : SweepRun) (now : Sweeping) (server suite : ℕ) (asked : Request) → ◌≡◌ {A = Option (ℕ × Request)} (Some (sweep.asked_now fixed.service sweeping now))
       (Some (server, asked)) → fetches suite asked ≡ true → IsFetching fixed agent job events server suite
-  by_sweep sweeping Listing server suite asked is kind = other_asked _ server suite request.Locks asked refl is kind
-  by_sweep sweeping (Resolving t left) server suite asked is kind = other_asked _ server suite (request.Resolve t) asked refl is kind
-  by_sweep sweeping (Telling t v left) server suite asked is kind = other_asked _ server suite (request.Finish t v) asked refl is kind
-  by_sweep sweeping (Breaking held left) server suite asked is kind = other_asked _ server suite (request.Break held.t held.suite) asked refl is kind
+  by_sweep sweeping now server suite asked h5 h6 = search arith
 
   by_doing : (server suite : ℕ) (asked : Request) (doing : Option Doing) → DoingStands fixed agent job events doing → next_in fixed doing ≡ Some (server, asked) → fetches suite asked ≡ true → IsFetching fixed agent job events server suite
-  by_doing server suite asked None stands is kind = cc
-  by_doing server suite asked (Some (RunningSweep sweeping)) stands is kind = by_sweep sweeping sweeping.now server suite asked is kind
-  by_doing server suite asked (Some (Running running)) stands is kind = by_phase running.task running.suites running.phase server suite asked (stands.stands_on (server, asked) is) is kind
+  by_doing server suite asked doing h4 h5 h6 = search (by_sweep, by_phase, arith)
 
 pub fetches_in_order : FetchesInOrder
-fetches_in_order fixed agent job events server t suite idle is =
-    by_doing fixed agent job events server suite (request.Fetch t suite) (after_all fixed (begin fixed agent job) events).doing (stands_after fixed agent job events idle) is (self suite)
+fetches_in_order fixed agent job events server t suite idle is = search (by_doing, stands_after, self, arith)

@@ -1,10 +1,9 @@
 -- A lock is asked for of the first server that is left.
 use Rattle.law_agents.proofs.Vocabulary.{◌≡◌, ℕ, ◌<◌, Bool, true, false, cond, inl, inr, List, [], ◌∷◌, ◌++◌, Option, Some, None, refl, sym, ap, subst, ◌∙◌, arith, ◌&&◌, not, nat_lt, nat_le, find, eqb-true, false≢true, nat_tests, same_Some}
-use Rattle.law_agents.proofs.Vocabulary.{Representative, LockMode, Shared, Request, Said, newest, has_told, Collector, told_since, votes_or, mode_or, all_told, counted, wanted, needed, got, is_member, is_left, asked_of, ask_or_short}
-use Rattle.law_agents.proofs.Vocabulary.{version, members_of, request_for, Asked, Poll, Upgrade, Next, Ask, Current, next, GatheredSuite, Suites, suite_of, told_in, parts_at, Job, home_of, Fixed, Task, Phase, Gathering, Fetching, Widening}
-use Rattle.law_agents.proofs.Vocabulary.{Preparing, Deciding, Finishing, Sweeping, Listing, Resolving, Telling, Breaking, SweepRun, Doing, Running, RunningSweep, asked_by, asked_for, request_in, changes_of, decision_of, Agent, Event}
-use Rattle.law_agents.proofs.Vocabulary.{next_in, begin, after_all, Exchange, of_job, locks, told_of, has_said, holding, refusing, SetsVotes, asks_same, fetched_as, StandsOn, Wants, Sets, Are, asks_lock, kind_of, told_said, votes_same}
-use Rattle.law_agents.proofs.Vocabulary.{Base_of, Started, Begins, DoingStands, stands_after, started_is}
+use Rattle.law_agents.proofs.Vocabulary.{Representative, LockMode, Shared, Request, Said, newest, has_told, Collector, told_since, votes_or, mode_or, all_told, counted, wanted, needed, got, is_member, is_left, asked_of, ask_or_short, version}
+use Rattle.law_agents.proofs.Vocabulary.{members_of, request_for, Asked, Poll, Upgrade, Next, Ask, Current, next, GatheredSuite, Suites, suite_of, told_in, parts_at, Job, home_of, Fixed, Task, Phase, Gathering, Fetching, Widening, Preparing}
+use Rattle.law_agents.proofs.Vocabulary.{Deciding, Finishing, Sweeping, SweepRun, Doing, Running, RunningSweep, asked_by, asked_for, request_in, changes_of, decision_of, Agent, Event, next_in, Exchange, of_job, locks, told_of, has_said, holding}
+use Rattle.law_agents.proofs.Vocabulary.{refusing, SetsVotes, asks_same, fetched_as, StandsOn, Wants, Sets, Are, asks_lock, kind_of, told_said, votes_same, Base_of, Started, Begins, DoingStands, stands_after, started_is}
 use Rattle.txn_core.proofs.Undecided.{IsOf, is_wanted, sets}
 use Rattle.law_agents.specs.Orders.{number_of}
 use Rattle.law_agents.specs.Gathers.{CountsBy, IsGathering, GathersInOrder}
@@ -67,8 +66,7 @@ module _ (fixed : Fixed) (agent : Agent) (job : Job) (events : List Event) where
 
     asked_so : (t : ℕ) (question : Asked) (b : Bool) → has_said past suite (holding Shared) server ≡ b → question ≡ cond b Upgrade (Poll (wanted c))
         → request_for t suite question ≡ cond b (request.Upgrade (number_of (request_for t suite question)) suite) (request.Poll (number_of (request_for t suite question)) suite (wanted c))
-    asked_so t question true is what = ap (request_for t suite) what ∙ ap (λ n. request.Upgrade n suite) (ap (λ question. number_of (request_for t suite question)) (sym what))
-    asked_so t question false is what = ap (request_for t suite) what ∙ ap (λ n. request.Poll n suite (wanted c)) (ap (λ question. number_of (request_for t suite question)) (sym what))
+    asked_so t question b h3 h4 = search arith
 
     gathering : (t : ℕ) (question : Asked) → next c ≡ Ask server question → IsGathering fixed agent job events server suite (request_for t suite question)
     gathering t question is =
@@ -119,8 +117,7 @@ module _ (fixed : Fixed) (agent : Agent) (job : Job) (events : List Event) where
   by_phase task own suites (Gathering number) server suite asked stands is lock =
       by_suite task own number suite server asked (suite_of suites number)
       (λ it there. let asking = stands.2 it there in record { told = told_there suites number it there stands.0; start = asking.start; wide = asking.wide; wants = asking.wanted }) is lock
-  by_phase task own suites (Fetching number) server suite asked stands is lock =
-      absurd (false≢true (sym (fetched_as (locks suite) false task number (suite_of suites number) server asked refl is) ∙ lock))
+  by_phase task own suites (Fetching number) server suite asked stands is lock = search (false≢true, fetched_as, arith)
   by_phase task own suites (Widening (number ∷ left) granted) server suite asked stands is lock =
       by_suite task own number suite server asked (suite_of suites number)
       (λ it there. let kept = stands.1 number it there in record { told = told_there suites number it there stands.0; start = kept.start; wide = kept.wide; wants = kept.wanted }) is lock
@@ -131,10 +128,7 @@ module _ (fixed : Fixed) (agent : Agent) (job : Job) (events : List Event) where
 
   by_sweep : (sweeping : SweepRun) (now : Sweeping) (server suite : ℕ) (asked : Request) → ◌≡◌ {A = Option (ℕ × Request)} (Some (sweep.asked_now fixed.service sweeping now))
       (Some (server, asked)) → locks suite asked ≡ true → IsGathering fixed agent job events server suite asked
-  by_sweep sweeping Listing server suite asked is lock = no_lock _ server suite request.Locks asked refl is lock
-  by_sweep sweeping (Resolving t left) server suite asked is lock = no_lock _ server suite (request.Resolve t) asked refl is lock
-  by_sweep sweeping (Telling t v left) server suite asked is lock = no_lock _ server suite (request.Finish t v) asked refl is lock
-  by_sweep sweeping (Breaking held left) server suite asked is lock = no_lock _ server suite (request.Break held.t held.suite) asked refl is lock
+  by_sweep sweeping now server suite asked h5 h6 = search arith
 
   by_doing : (server suite : ℕ) (asked : Request) (doing : Option Doing) → DoingStands fixed agent job events doing → next_in fixed doing ≡ Some (server, asked)
       → locks suite asked ≡ true → IsGathering fixed agent job events server suite asked
@@ -145,5 +139,4 @@ module _ (fixed : Fixed) (agent : Agent) (job : Job) (events : List Event) where
       running.phase server suite asked (stands.stands_on (server, asked) is) is lock
 
 pub gathers_in_order : GathersInOrder
-gathers_in_order fixed agent job events server suite asked idle is lock =
-    by_doing fixed agent job events server suite asked (after_all fixed (begin fixed agent job) events).doing (stands_after fixed agent job events idle) is lock
+gathers_in_order fixed agent job events server suite asked idle is lock = search (by_doing, stands_after, arith)

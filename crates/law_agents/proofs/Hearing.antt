@@ -1,9 +1,9 @@
 -- One walk through what a transaction does with what it is told while it gathers, with what was told of each suite.
-use Rattle.law_agents.proofs.Vocabulary.{◌≡◌, ℕ, Bool, true, false, cond, List, [], ◌∷◌, ◌++◌, Option, Some, None, Ok, Err, refl, sym, ap, subst, ◌∙◌, ◌==◌, length, eqb-true, Content, Request, Reply, Hold, Know, Said, Told, all_told, tell}
-use Rattle.law_agents.proofs.Vocabulary.{mode_of, Next, Ask, Current, Short, next, Cache, ReadPoint, GatheredSuite, Suites, suite_of, with_suite, told_in, settled, Response, Replied, Lacked, Cause, Lost, Granted, Fixed, Task, Proposal}
-use Rattle.law_agents.proofs.Vocabulary.{Phase, Gathering, Fetching, Widening, Preparing, Deciding, Finishing, TransactionRun, After, GoesOn, Step, Gathered, give_up, prepare, locked_at, short_cause, gather_by, widen_by, widen_one, widened}
-use Rattle.law_agents.proofs.Vocabulary.{widen_all, opened, heard_on, raised_or_new, keep_content, heard_of, said_to, proceed, execute, collected, hear, fetched, after_response, asked_for, request_in, given_in, lack_cause, Exchange, locks}
-use Rattle.law_agents.proofs.Vocabulary.{told_of, told_by, more_told, fetched_as, Are, are_with, are_same, are_opened, told_raised, all_told-tell, asks_lock, IsEarly, Outcome as Executed}
+use Rattle.law_agents.proofs.Vocabulary.{◌≡◌, ℕ, Bool, false, cond, List, [], ◌∷◌, ◌++◌, Option, Some, None, Ok, Err, refl, sym, ap, subst, ◌∙◌, ◌==◌, eqb-true, Content, Request, Reply, Hold, Know, Said, Told, all_told, tell, arith, mode_of, Next}
+use Rattle.law_agents.proofs.Vocabulary.{next, Cache, ReadPoint, GatheredSuite, Suites, suite_of, with_suite, told_in, Response, Replied, Lacked, Cause, Lost, Granted, Fixed, Task, Proposal, Phase, Gathering, Fetching, Widening, Preparing, Deciding}
+use Rattle.law_agents.proofs.Vocabulary.{Finishing, TransactionRun, After, GoesOn, Step, Gathered, give_up, prepare, locked_at, gather_by, widen_by, widen_one, widened, widen_all, keep_content, heard_of, said_to, proceed, execute, collected, hear}
+use Rattle.law_agents.proofs.Vocabulary.{fetched, after_response, asked_for, request_in, given_in, lack_cause, Exchange, locks, told_of, told_by, more_told, fetched_as, Are, are_with, are_same, are_opened, told_raised, all_told-tell, asks_lock}
+use Rattle.law_agents.proofs.Vocabulary.{IsEarly, Outcome as Executed}
 use Rattle.file_exec.specs.declared.executor.Outcome.TheVariants as exec
 
 -- ---- what was told of each suite, with one exchange more
@@ -21,19 +21,14 @@ told_push number before (first ∷ past) one = told_push number (cond (locks num
 
 -- nothing is told where no lock was asked for, or nothing is said of it
 pub are_quiet : (past : List Exchange) (suites : Suites) (server : ℕ) (asked : Request) (heard : Response) → ((number : ℕ) → locks number asked ≡ false) → Are (tells past) suites → Are (tells (push past server asked heard)) suites
-are_quiet past suites server asked heard none are =
-    let one : Exchange = record { server = server; request = asked; response = heard } in
-    (are.0, λ number. are.1 number ∙ sym (told_push number [] past one ∙ ap (λ b. cond b (told_by (tells past number) one heard) (tells past number)) (none number)))
+are_quiet past suites server asked heard none are = search (told_push, arith)
 
 same_either : {X : Type 0} (b : Bool) (x : X) → cond b x x ≡ x
-same_either true x = refl
-same_either false x = refl
+same_either b x = search arith
 
 are_silent : (past : List Exchange) (suites : Suites) (server : ℕ) (asked : Request) (heard : Response) → ((number : ℕ) → told_by (tells past number) (record { server = server; request = asked; response = heard }) heard ≡ tells past number)
     → Are (tells past) suites → Are (tells (push past server asked heard)) suites
-are_silent past suites server asked heard none are =
-    let one : Exchange = record { server = server; request = asked; response = heard } in
-    (are.0, λ number. are.1 number ∙ sym (told_push number [] past one ∙ ap (λ told. cond (locks number asked) told (tells past number)) (none number) ∙ same_either (locks number asked) (tells past number)))
+are_silent past suites server asked heard none are = search (told_push, same_either, arith)
 
 pub are_lacked : (past : List Exchange) (suites : Suites) (server : ℕ) (asked : Request) (lacked : Rattle.rep_core.specs.declared.stamped.Lack.Lack) → Are (tells past) suites → Are (tells (push past server asked (Lacked lacked))) suites
 are_lacked past suites server asked lacked are = are_silent past suites server asked (Lacked lacked) (λ number. refl) are
@@ -52,14 +47,10 @@ are_told past suites number server asked said heard now lock was same are =
     one = record { server = server; mode = mode_of asked; said = heard }
 
     newly : (other : ℕ) → tells (push past server asked (Replied said)) other ≡ cond (number == other) (one ∷ tells past other) (tells past other)
-    newly other =
-        told_push other [] past (record { server = server; request = asked; response = Replied said })
-        ∙ ap (λ b. cond b (more_told (tells past other) server asked (said_to asked said)) (tells past other)) (lock other)
-        ∙ ap (λ heard. cond (number == other) (more_told (tells past other) server asked heard) (tells past other)) was
+    newly other = search (told_push, arith)
 
     at : (other : ℕ) (b : Bool) → (number == other) ≡ b → cond b (all_told now.collector) (tells past other) ≡ cond b (one ∷ tells past other) (tells past other)
-    at other true is = same ∙ ap (λ other. one ∷ tells past other) (eqb-true number other is)
-    at other false is = refl
+    at other b h2 = search (one, eqb-true, arith)
 
 -- ---- the walk
 
@@ -70,14 +61,11 @@ module _ (task : Task) (past : List Exchange) (Left : After TransactionRun → T
     (given_up : (cache : Cache) (suites : Suites) (cause : Cause) → Are (tells past) suites → Left (give_up task cache suites cause).after)
     (prepares : (cache : Cache) (suites : Suites) (outcome : Proposal) → Are (tells past) suites → Left (prepare task cache suites outcome (locked_at suites)).after) where
   goes_gather : (cache : Cache) (suites : Suites) (number : ℕ) (next : Next) → Are (tells past) suites → Left (gather_by task cache suites number next).after
-  goes_gather cache suites number (Short got needed busy) are = given_up cache suites (short_cause number got needed busy) are
-  goes_gather cache suites number other are = early suites (Gathering number) tt are
+  goes_gather cache suites number next h4 = search arith
 
   goes_widen_by : (cache : Cache) (suites : Suites) (left : List ℕ) (granted : Granted) (number : ℕ) (next : Next) (go_on : Suites → Step) → Are (tells past) suites → ((suites : Suites) → Are (tells past) suites → Left (go_on suites).after)
       → Left (widen_by task cache suites (Widening left granted) number next go_on).after
-  goes_widen_by cache suites left granted number (Current prefix dver members) go_on are more = more suites are
-  goes_widen_by cache suites left granted number (Ask server asked) go_on are more = early suites (Widening left granted) tt are
-  goes_widen_by cache suites left granted number (Short got needed busy) go_on are more = given_up cache suites (short_cause number got needed busy) are
+  goes_widen_by cache suites left granted number next go_on h7 h8 = search arith
 
   goes_widen_one : (cache : Cache) (suites : Suites) (left : List ℕ) (granted : Granted) (number : ℕ) (found : Option GatheredSuite) (go_on : Suites → Step) → suite_of suites number ≡ found → Are (tells past) suites
       → ((suites : Suites) → Are (tells past) suites → Left (go_on suites).after)
@@ -93,17 +81,13 @@ module _ (task : Task) (past : List Exchange) (Left : After TransactionRun → T
       goes_widen_one cache suites (number ∷ left) granted number (suite_of suites number) _ refl are (λ suites are. goes_widen cache suites granted left are)
 
   goes_proceed : (fixed : Fixed) (cache : Cache) (suites : Suites) (heard : Executed) → Are (tells past) suites → Left (proceed fixed task cache suites heard).after
-  goes_proceed fixed cache suites (exec.Need (Hold number mode)) are =
-      let suite = raised_or_new fixed task cache number mode (suite_of suites number) in
-      goes_gather cache (with_suite number suite suites) number (next suite.collector) (are_same (tells past) suites number suite are (told_raised fixed task cache number mode (suite_of suites number)))
+  goes_proceed fixed cache suites (exec.Need (Hold number mode)) are = search (goes_gather, are_same, told_raised, arith)
   goes_proceed fixed cache suites (exec.Need (Know number)) are = early suites (Fetching number) tt are
   goes_proceed fixed cache suites (exec.Done answers changes) are = goes_widen cache suites (record { answers = answers; changes = changes }) _ are
   goes_proceed fixed cache suites (exec.Refused refusal) are = prepares cache suites (Err refusal) are
 
   pub goes_execute : (fixed : Fixed) (all : Gathered) → Are (tells past) all.suites → Left (execute fixed task all).after
-  goes_execute fixed all are =
-      let open' = opened (length all.suites) fixed task all in
-      goes_proceed fixed open'.cache open'.suites (heard_on fixed task open'.suites) (are_opened (tells past) (length all.suites) fixed task all are)
+  goes_execute fixed all are = search (goes_proceed, are_opened, arith)
 
   goes_fetched : (fixed : Fixed) (cache : Cache) (suites : Suites) (number : ℕ) (found : Option GatheredSuite) (server : ℕ) (given : Option Content) → suite_of suites number ≡ found → Are (tells past) suites
       → Left (fetched fixed task cache suites number found server given).after
@@ -119,9 +103,7 @@ module _ (task : Task) (past : List Exchange) (Left : After TransactionRun → T
   goes_collected : (cache : Cache) (suites : Suites) (phase : Phase) (number : ℕ) (suite : GatheredSuite) (next : Next) (go_on : Suites → Step) → IsEarly phase
       → ((it : GatheredSuite) → it.collector ≡ suite.collector → Are (tells past) (with_suite number it suites)) → ((suites : Suites) → Are (tells past) suites → Left (go_on suites).after)
       → Left (collected task cache suites phase number suite next (λ suite. go_on (with_suite number suite suites))).after
-  goes_collected cache suites phase number suite (Ask server asked) go_on is are more = early (with_suite number suite suites) phase is (are suite refl)
-  goes_collected cache suites phase number suite (Short got needed busy) go_on is are more = given_up cache (with_suite number suite suites) (short_cause number got needed busy) (are suite refl)
-  goes_collected cache suites phase number suite (Current prefix dver members) go_on is are more = more (with_suite number (settled prefix dver members suite) suites) (are (settled prefix dver members suite) refl)
+  goes_collected cache suites phase number suite next go_on h7 h8 h9 = search arith
 
 module _ (task : Task) (past : List Exchange) (server : ℕ) (asked : Request) (heard : Response) (Left : After TransactionRun → Type 0)
     (early : (suites : Suites) (phase : Phase) → IsEarly phase → Are (tells (push past server asked heard)) suites → Left (GoesOn (record { task = task; suites = suites; phase = phase })))

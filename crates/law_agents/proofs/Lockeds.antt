@@ -1,6 +1,6 @@
 -- The servers that hold locks for a transaction are those that were heard to hold one.
-use Rattle.law_agents.proofs.Vocabulary.{◌≡◌, ℕ, Bool, true, false, cond, List, [], ◌∷◌, ◌++◌, Some, None, refl, sym, ap, ◌∙◌, ◌==◌, ◌&&◌, ◌||◌, filter, nat_cmp, is_at, false≢true, IsOrdered, Shared, max_servers, Request, Reply, Told}
-use Rattle.law_agents.proofs.Vocabulary.{holds, mode_of, Response, Replied, Lacked, numbers_from, is_poll, said_to, locked_at, Exchange, locks, says_held, was_held, told_of, told_by, more_told, self, serves_shared, Are}
+use Rattle.law_agents.proofs.Vocabulary.{◌≡◌, ℕ, Bool, true, false, cond, List, [], ◌∷◌, ◌++◌, Some, None, refl, sym, ap, ◌∙◌, ◌==◌, ◌&&◌, ◌||◌, filter, nat_cmp, is_at, false≢true, IsOrdered, Shared, max_servers, Request, Told, arith, holds}
+use Rattle.law_agents.proofs.Vocabulary.{Response, numbers_from, locked_at, Exchange, locks, says_held, was_held, told_of, told_by, self, Are}
 use Rattle.std.specs.Cmp.{unsigned_tied}
 use Rattle.std.specs.Map.{keys_of}
 use Rattle.std.proofs.lemmas.Cmp.{nat_cmp_total, eq_by_cmp_equiv}
@@ -13,46 +13,12 @@ use Rattle.txn_core.proofs.Ready.{has_one}
 use Rattle.law_agents.specs.Orders.{wants_lock, was_locked, locked}
 use Rattle.txn_core.specs.Suites.{told_at, Suites, suite_of, told_in, holds_lock, has_locks}
 use Rattle.rep_core.specs.declared.request.Request.TheVariants as request
-use Rattle.rep_core.specs.declared.reply.Reply.TheVariants as reply
 
 -- ---- what was told of a suite is what was heard of it
 
--- what a reply says to a collector is held where the reply says so
-said_is_held : (asked : Request) (said : Reply) (before : List Told) (server who : ℕ)
-    → holds Shared (more_told before server asked (said_to asked said)) who ≡ (((server == who) && says_held (Replied said)) || holds Shared before who)
-said_is_held asked said before server who = of said
-  where
-    out : (a b : Bool) → b ≡ ((a && false) || b)
-    out true b = refl
-    out false b = refl
-
-    of : (said : Reply) → holds Shared (more_told before server asked (said_to asked said)) who ≡ (((server == who) && says_held (Replied said)) || holds Shared before who)
-    of (reply.Held prefix dver) = ap (λ b. ((server == who) && b) || holds Shared before who) (serves_shared (mode_of asked))
-    of (reply.Busy holder prepared) = refl
-    of reply.Down = elim (is_poll asked) as (λ b. holds Shared (more_told before server asked (cond b (Some Rattle.suite_collect.specs.declared.told.Said.TheVariants.Down) None))
-        who ≡ (((server == who) && false) || holds Shared before who)) [
-          | true ↦ refl
-          | false ↦ out (server == who) (holds Shared before who)
-        ]
-    of other = out (server == who) (holds Shared before who)
-
 one_held : (number who : ℕ) (before : List Told) (one : Exchange) (lock : Bool) (heard : Response)
     → holds Shared (cond lock (told_by before one heard) before) who ≡ (((one.server == who) && lock && says_held heard) || holds Shared before who)
-one_held number who before one true (Replied said) = said_is_held one.request said before one.server who ∙ ap (λ b. b || holds Shared before who) (on (one.server == who) (says_held (Replied said)))
-  where
-    on : (a b : Bool) → (a && b) ≡ ((a && true) && b)
-    on true b = refl
-    on false b = refl
-one_held number who before one true (Lacked lacked) = out (one.server == who) (holds Shared before who)
-  where
-    out : (a b : Bool) → b ≡ (((a && true) && false) || b)
-    out true b = refl
-    out false b = refl
-one_held number who before one false heard = out (one.server == who) (says_held heard) (holds Shared before who)
-  where
-    out : (a c b : Bool) → b ≡ (((a && false) && c) || b)
-    out true c b = refl
-    out false c b = refl
+one_held number who before one lock heard = search arith
 
 pub held_from : (number who : ℕ) (before : List Told) (past : List Exchange) → holds Shared (told_of number before past) who ≡ (holds Shared before who || was_held past number who)
 held_from number who before [] = of (holds Shared before who)
@@ -74,9 +40,7 @@ held_from number who before (one ∷ past) =
 
 -- a lock on a suite is a lock
 locks_wants : (number : ℕ) (asked : Request) → locks number asked ≡ true → wants_lock asked ≡ true
-locks_wants number (request.Poll t suite mode) is = refl
-locks_wants number (request.Upgrade t suite) is = refl
-locks_wants number other is = cc
+locks_wants number asked h2 = search arith
 
 -- and each lock is one on a suite
 wants_locks : (asked : Request) → wants_lock asked ≡ true → (number : ℕ) × (locks number asked ≡ true)
@@ -86,14 +50,7 @@ wants_locks other is = cc
 
 held_locked : (number who : ℕ) (past : List Exchange) → was_held past number who ≡ true → was_locked past who ≡ true
 held_locked number who [] is = cc
-held_locked number who (one ∷ past) is = of (held_locked number who past) (one.server == who) (locks number one.request) refl (says_held one.response) is
-  where
-    of : (was_held past number who ≡ true → was_locked past who ≡ true) → (a b : Bool) → locks number one.request ≡ b → (c : Bool)
-        → ((a && b && c) || was_held past number who) ≡ true → ((a && wants_lock one.request && c) || was_locked past who) ≡ true
-    of rest true true lock true is = ap (λ b. (b && true) || was_locked past who) (locks_wants number one.request lock)
-    of rest true true lock false is = or_true (wants_lock one.request && false) (rest is)
-    of rest true false lock c is = or_true (wants_lock one.request && c) (rest is)
-    of rest false b lock c is = rest is
+held_locked number who (one ∷ past) is = search (locks_wants, or_true, held_locked number who past, arith)
 
 locked_held : (who : ℕ) (past : List Exchange) → was_locked past who ≡ true → (number : ℕ) × (was_held past number who ≡ true)
 locked_held who [] is = cc
@@ -103,15 +60,7 @@ locked_held who (one ∷ past) is =
   where
     of : (was_locked past who ≡ true → (number : ℕ) × (was_held (one ∷ past) number who ≡ true)) → (a b c : Bool) → (one.server == who) ≡ a → wants_lock one.request ≡ b
         → says_held one.response ≡ c → ((a && b && c) || was_locked past who) ≡ true → (number : ℕ) × (was_held (one ∷ past) number who ≡ true)
-    of later true true true at lock said is =
-        let suite = wants_locks one.request lock in (
-          suite.0,
-          ap (λ a. (a && locks suite.0 one.request && says_held one.response) || was_held past suite.0 who) at ∙ ap
-              (λ b. (b && says_held one.response) || was_held past suite.0 who) suite.1 ∙ ap (λ c. c || was_held past suite.0 who) said,
-        )
-    of later true true false at lock said is = later is
-    of later true false c at lock said is = later is
-    of later false b c at lock said is = later is
+    of h0 a b c h4 h5 h6 h7 = search (wants_locks, arith)
 
 -- ---- suites that hold locks
 
@@ -143,17 +92,7 @@ pub heard_of_are : (past : List Exchange) (suites : Suites) → Are (λ number. 
 heard_of_are past suites are = (are.0, λ number who. ap (λ told. holds Shared told who) (are.1 number) ∙ held_from number who [] past)
 
 pub lockers : (past : List Exchange) (suites : Suites) → HeardOf past suites → (server : ℕ) → has_locks suites server ≡ was_locked past server
-lockers past suites heard server = of (has_locks suites server) (was_locked past server) refl refl
-  where
-    of : (a b : Bool) → has_locks suites server ≡ a → was_locked past server ≡ b → a ≡ b
-    of true true is other = refl
-    of false false is other = refl
-    of true false is other =
-        let suite = one_of suites server heard.0 is in
-        sym (sym other ∙ held_locked suite.0 server past (sym (heard.1 suite.0 server) ∙ suite.1))
-    of false true is other =
-        let suite = locked_held server past other in
-        sym is ∙ has_one suites suite.0 server (heard.1 suite.0 server ∙ suite.1)
+lockers past suites heard server = search (one_of, held_locked, locked_held, has_one, arith)
 
 pub locked_is : (past : List Exchange) (suites : Suites) → HeardOf past suites → locked past ≡ locked_at suites
 locked_is past suites heard = λ i. filter (λ server. sym (lockers past suites heard server) i) (numbers_from 0 max_servers)
@@ -161,15 +100,7 @@ locked_is past suites heard = λ i. filter (λ server. sym (lockers past suites 
 -- ---- what no lock is asked for adds none
 
 no_lock : (past : List Exchange) (one : Exchange) (server : ℕ) → wants_lock one.request ≡ false → was_locked (past ++ one ∷ []) server ≡ was_locked past server
-no_lock past one server none =
-    list_any-append (λ (one : Exchange). (one.server == server) && wants_lock one.request && says_held one.response) past (one ∷ [])
-    ∙ ap (λ b. was_locked past server || (((one.server == server) && b && says_held one.response) || false)) none
-    ∙ of (was_locked past server) (one.server == server)
-  where
-    of : (a b : Bool) → (a || ((b && false && says_held one.response) || false)) ≡ a
-    of true b = refl
-    of false true = refl
-    of false false = refl
+no_lock past one server none = search (list_any-append, arith)
 
 pub locked_still : (past : List Exchange) (one : Exchange) → wants_lock one.request ≡ false → locked (past ++ one ∷ []) ≡ locked past
 locked_still past one none = λ i. filter (λ server. no_lock past one server none i) (numbers_from 0 max_servers)

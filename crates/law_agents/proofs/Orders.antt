@@ -1,10 +1,10 @@
 -- A transaction asks in order.
-use Rattle.law_agents.proofs.Vocabulary.{◌≡◌, ℕ, ◌+◌, ◌≤◌, ◌<◌, Bool, true, false, cond, inl, inr, List, [], ◌∷◌, ◌++◌, Option, Some, None, refl, sym, ap, subst, ◌∙◌, arith, ◌==◌, ◌&&◌, nat_lt, map, filter, Contains, eqb-true, false≢true}
-use Rattle.law_agents.proofs.Vocabulary.{append-nil, map-append, Contains-push_cases, Contains-append_right, filter-append, same_Some, Identity, Op, has_from, contains_from, is_prepared, Request, Verdict, Cache, Suites, suite_of, parts_at}
-use Rattle.law_agents.proofs.Vocabulary.{Response, Replied, Lacked, Cause, Lost, Ending, Undecided, Job, Transaction, home_of, Fixed, Task, Proposal, Phase, Gathering, Fetching, Widening, Preparing, Deciding, Finishing, TransactionRun}
-use Rattle.law_agents.proofs.Vocabulary.{Doing, Running, RunningSweep, After, GoesOn, tell_end, give_up, prepare, locked_at, after_response, request_in, request_of, changes_of, decision_of, verdict_in, ending_by, cause_of_abort, lack_cause}
-use Rattle.law_agents.proofs.Vocabulary.{Agent, Event, next_in, next_of, take_in, begin, started, is_idle, has_sense, max_jobs, after_all, Exchange, of_job, is_decide, is_prepare, says_prepared, told_verdict, task_of, is_finish, asks_same}
-use Rattle.law_agents.proofs.Vocabulary.{asked_as, fetched_as, StandsOn, self, Base, Keeps, plus_all, nothing_held, all_keep, begin_keeps, Are, are_nil, Base_of, Started, Begins, DoingStands, stands_after, IsEarly, append_assoc}
+use Rattle.law_agents.proofs.Vocabulary.{◌≡◌, ℕ, ◌+◌, ◌≤◌, ◌<◌, Bool, true, false, cond, inl, inr, List, [], ◌∷◌, ◌++◌, Option, Some, None, refl, sym, ap, subst, ◌∙◌, arith, ◌==◌, ◌&&◌, nat_lt, map, filter, Contains, eqb-true, false≢true, append-nil}
+use Rattle.law_agents.proofs.Vocabulary.{map-append, Contains-push_cases, Contains-append_right, filter-append, same_Some, Identity, Op, has_from, contains_from, is_prepared, Request, Verdict, Cache, Suites, suite_of, parts_at, Response, Replied}
+use Rattle.law_agents.proofs.Vocabulary.{Lacked, Cause, Lost, Ending, Undecided, Job, Transaction, home_of, Fixed, Task, Proposal, Phase, Gathering, Fetching, Widening, Preparing, Deciding, Finishing, TransactionRun, Doing, Running, RunningSweep}
+use Rattle.law_agents.proofs.Vocabulary.{After, GoesOn, tell_end, give_up, prepare, locked_at, after_response, request_in, request_of, changes_of, decision_of, verdict_in, ending_by, cause_of_abort, lack_cause, Agent, Event, next_in, next_of}
+use Rattle.law_agents.proofs.Vocabulary.{take_in, begin, started, is_idle, has_sense, max_jobs, after_all, Exchange, of_job, is_decide, is_prepare, says_prepared, told_verdict, task_of, is_finish, asks_same, asked_as, fetched_as, StandsOn, self}
+use Rattle.law_agents.proofs.Vocabulary.{Base, Keeps, plus_all, nothing_held, all_keep, begin_keeps, Are, are_nil, Base_of, Started, Begins, DoingStands, stands_after, IsEarly, append_assoc}
 use Rattle.txn_core.proofs.Mild.{finish_carries_the_verdict}
 use Rattle.law_agents.specs.Orders.{stage, number_of, locked, sent_to, IsInOrder, StagesRise, AllPrepared, IsPreparing, PreparesInOrder, IsDeciding, DecidesInOrder, IsFinishing, FinishesInOrder, AllFinish}
 use Rattle.rep_core.specs.declared.request.Request.TheVariants as request

@@ -1,10 +1,9 @@
 -- A transaction prepares on quorums: if all now prepared, it would have it decided, on just these suites.
-use Rattle.law_agents.proofs.Vocabulary.{◌≡◌, ℕ, ◌+◌, true, false, cond, List, [], ◌∷◌, ◌++◌, Option, Some, None, refl, sym, ap, subst, ◌∙◌, nat_lt, ◌&&◌, false≢true, same_Some, is_prepared, Request, Verdict, Cache, GatheredSuite, Suites}
-use Rattle.law_agents.proofs.Vocabulary.{suite_of, told_in, parts_at, Response, Replied, Lacked, Cause, Lost, Ending, Undecided, Job, Transaction, Sweep, home_of, Fixed, Task, Proposal, Phase, Gathering, Fetching, Widening, Preparing}
-use Rattle.law_agents.proofs.Vocabulary.{Deciding, Finishing, TransactionRun, Sweeping, Listing, Resolving, Telling, Breaking, SweepRun, Doing, Running, RunningSweep, After, GoesOn, Ends, tell_end, give_up, prepare, locked_at}
-use Rattle.law_agents.proofs.Vocabulary.{after_response, request_in, request_of, changes_of, decision_of, verdict_in, ending_by, cause_of_abort, lack_cause, Agent, Event, Take, Forget, next_in, take_in, take, begin, started, forget}
-use Rattle.law_agents.proofs.Vocabulary.{is_idle, has_sense, max_jobs, after_all, Exchange, of_job, locks, is_prepare, task_of, IsReady, asks_same, asked_as, fetched_as, StandsOn, Base, Are, are_nil, Base_of, Started, Begins, DoingStands}
-use Rattle.law_agents.proofs.Vocabulary.{stands_after, IsEarly}
+use Rattle.law_agents.proofs.Vocabulary.{◌≡◌, ℕ, ◌+◌, true, false, cond, List, [], ◌∷◌, ◌++◌, Option, Some, None, refl, sym, ap, subst, ◌∙◌, nat_lt, ◌&&◌, false≢true, same_Some, is_prepared, Request, Verdict, Cache, GatheredSuite, Suites, suite_of}
+use Rattle.law_agents.proofs.Vocabulary.{told_in, parts_at, Response, Replied, Lacked, Cause, Lost, Ending, Undecided, Job, Transaction, Sweep, home_of, Fixed, Task, Proposal, Phase, Gathering, Fetching, Widening, Preparing, Deciding, Finishing}
+use Rattle.law_agents.proofs.Vocabulary.{TransactionRun, Sweeping, Listing, Resolving, Telling, Breaking, SweepRun, Doing, Running, RunningSweep, After, GoesOn, Ends, tell_end, give_up, prepare, locked_at, after_response, request_in, request_of}
+use Rattle.law_agents.proofs.Vocabulary.{changes_of, decision_of, verdict_in, ending_by, cause_of_abort, lack_cause, Agent, Event, Take, Forget, next_in, take_in, take, begin, started, forget, is_idle, has_sense, max_jobs, after_all, Exchange}
+use Rattle.law_agents.proofs.Vocabulary.{of_job, locks, is_prepare, task_of, IsReady, asks_same, asked_as, fetched_as, StandsOn, Base, Are, are_nil, Base_of, Started, Begins, DoingStands, stands_after, IsEarly}
 use Rattle.rep_core.specs.declared.request.Part.{Part}
 use Rattle.txn_core.proofs.Quorums.{decides_on_quorums}
 use Rattle.law_agents.specs.Quorate.{IsWritten, PreparesOnQuorums}

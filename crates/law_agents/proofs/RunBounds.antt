@@ -1,6 +1,6 @@
 -- Each job that ends in a run took few steps.
-use Rattle.law_agents.proofs.Vocabulary.{◌≡◌, inl, inr, ℕ, zero, suc, ◌+◌, Bool, true, false, cond, List, [], ◌∷◌, ◌++◌, append_assoc, Option, Some, None, refl, sym, ap, subst, ◌∙◌, arith, ◌≢◌, ◌&&◌, ◌==◌, is_some, slice_get, slice_set}
-use Rattle.law_agents.proofs.Vocabulary.{cons_option, eqb-true, nat_tests, none-some, same_Some, Has, has_from, Request, Response, Replied, Lacked, Ending, Agent, Take, next_of, take, begin, forget, fixed_of, EndedJob, dones, outcomes, run}
+use Rattle.law_agents.proofs.Vocabulary.{◌≡◌, inl, inr, ℕ, zero, suc, ◌+◌, Bool, true, false, cond, List, [], ◌∷◌, ◌++◌, append_assoc, Option, Some, None, refl, sym, ap, subst, ◌∙◌, arith, ◌≢◌, ◌&&◌, ◌==◌, is_some, slice_get, slice_set, cons_option}
+use Rattle.law_agents.proofs.Vocabulary.{eqb-true, nat_tests, none-some, same_Some, Has, has_from, Request, Response, Replied, Lacked, Ending, Agent, Take, next_of, take, begin, forget, fixed_of, EndedJob, dones, outcomes, run}
 use Rattle.suite_prefix.specs.SettingsRules.{Opening}
 use Rattle.rep_core.specs.State.{State}
 use Rattle.run_core.specs.declared.event.Event.TheVariants.{Begin, Crash, Return, Lack, Step, Forget}

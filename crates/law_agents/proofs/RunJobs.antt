@@ -1,8 +1,8 @@
 -- A job of an agent in a run: what it was told there since its begin, and how many steps it took.
-use Rattle.law_agents.proofs.Vocabulary.{◌≡◌, ◌⊎◌, inl, inr, ℕ, ◌+◌, ◌≤◌, Bool, true, false, cond, List, [], ◌∷◌, ◌++◌, append_assoc, length, Option, Some, None, refl, sym, ap, subst, ◌∙◌, arith, ◌&&◌, ◌*◌, ◌-◌, ◌==◌, min, nat_lt}
-use Rattle.law_agents.proofs.Vocabulary.{nat_tests, append-nil, none-some, same_Some, Identity, Op, Request, Response, Ending, Job, Transaction, Sweep, Fixed, Doing, Running, RunningSweep, After, GoesOn, Ends, Agent, Taken, Take, next_in}
-use Rattle.law_agents.proofs.Vocabulary.{next_of, left, end_of, take_in, take, begin, begins, started, forget, is_idle, has_sense, max_jobs, fixed_of, Exchange, exchange_of, of_job, among, asks_only, names_only, listed, ends_in_time}
-use Rattle.law_agents.proofs.Vocabulary.{sweep_ends_in_time, after-append, exchanges-take, exchanges-forget, EndedJob, after, run, agent_after, VotesAreValid, is_known}
+use Rattle.law_agents.proofs.Vocabulary.{◌≡◌, ◌⊎◌, inl, inr, ℕ, ◌+◌, ◌≤◌, Bool, true, false, cond, List, [], ◌∷◌, ◌++◌, append_assoc, length, Option, Some, None, refl, sym, ap, subst, ◌∙◌, arith, ◌&&◌, ◌*◌, ◌-◌, ◌==◌, min, nat_lt, nat_tests}
+use Rattle.law_agents.proofs.Vocabulary.{append-nil, none-some, same_Some, Identity, Op, Request, Response, Ending, Job, Transaction, Sweep, Fixed, Doing, Running, RunningSweep, After, GoesOn, Ends, Agent, Taken, Take, next_in, next_of, left, end_of}
+use Rattle.law_agents.proofs.Vocabulary.{take_in, take, begin, begins, started, forget, is_idle, has_sense, max_jobs, fixed_of, Exchange, exchange_of, of_job, among, asks_only, names_only, listed, ends_in_time, sweep_ends_in_time, after-append}
+use Rattle.law_agents.proofs.Vocabulary.{exchanges-take, exchanges-forget, EndedJob, after, run, agent_after, VotesAreValid, is_known}
 use Rattle.std.proofs.Math.Nat.{min-le_left}
 use Rattle.suite_prefix.specs.SettingsRules.{Opening}
 use Rattle.rep_core.specs.Store.{last_number}

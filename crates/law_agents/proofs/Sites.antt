@@ -1,7 +1,7 @@
 -- Agents keep nothing for sites that are not there: an agent by itself, and each agent of a run.
-use Rattle.law_agents.proofs.Vocabulary.{◌≡◌, ◌⊎◌, inl, inr, ℕ, zero, suc, ◌+◌, ◌<◌, Bool, true, false, cond, List, [], ◌∷◌, ◌++◌, append_assoc, Option, Some, None, refl, sym, ap, subst, ◌∙◌, arith, ◌&&◌, nat_lt, slice_get, false≢true}
-use Rattle.law_agents.proofs.Vocabulary.{and_parts, nat_tests, append-nil, none-some, same_Some, Request, Entry, Response, Job, Fixed, Doing, Agent, Take, next_in, next_of, take_in, take, begin, begins, started, forget, is_idle, has_sense}
-use Rattle.law_agents.proofs.Vocabulary.{max_jobs, max_sites, after_all, fixed_of, after-append, after, agent_after}
+use Rattle.law_agents.proofs.Vocabulary.{◌≡◌, ◌⊎◌, inl, inr, ℕ, zero, suc, ◌+◌, ◌<◌, Bool, true, false, cond, List, [], ◌∷◌, ◌++◌, append_assoc, Option, Some, None, refl, sym, ap, subst, ◌∙◌, arith, ◌&&◌, nat_lt, slice_get, false≢true, and_parts}
+use Rattle.law_agents.proofs.Vocabulary.{nat_tests, append-nil, none-some, same_Some, Request, Entry, Response, Job, Fixed, Doing, Agent, Take, next_in, next_of, take_in, take, begin, begins, started, forget, is_idle, has_sense, max_jobs, max_sites}
+use Rattle.law_agents.proofs.Vocabulary.{after_all, fixed_of, after-append, after, agent_after}
 use Rattle.txn_core.specs.Caching.{IsFetched}
 use Rattle.txn_core.proofs.Caching.{caches_what_was_fetched}
 use Rattle.run_core.specs.Worlds.{World, Actor, actors_from, opening, step}

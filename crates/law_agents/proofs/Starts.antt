@@ -1,8 +1,8 @@
 -- With valid votes a suite that is gathered was told of, so a lock on it was asked for at its start.
 use Rattle.law_agents.proofs.Vocabulary.{◌≡◌, inl, inr, ℕ, zero, suc, ◌<◌, Bool, true, false, List, [], ◌∷◌, ◌++◌, append_assoc, Option, Some, None, refl, sym, ap, subst, ◌∙◌, arith, is_some, option_map, unwrap_or, Contains, false≢true}
-use Rattle.law_agents.proofs.Vocabulary.{Contains-append_left, Representative, Configuration, total_votes, IsValid, absent_prefix, Prefix, LockMode, Exclusive, Has, contains_from, Said, Told, has_told, newest, Collector, next, Current}
-use Rattle.law_agents.proofs.Vocabulary.{hint, hint_has, has_to, GatheredSuite, known_of, change_of, Job, Fixed, Change, Agent, Event, Take, Forget, next_of, take, begin, forget, is_idle, after_all, Exchange, exchange_of, exchanges, of_job}
-use Rattle.law_agents.proofs.Vocabulary.{told_of, has_said, holding, refusing, task_of, IsStart, WasGathered, SetsVotes, IsShort, untold_before, kind_of, told_said, agent_after, VotesAreValid}
+use Rattle.law_agents.proofs.Vocabulary.{Contains-append_left, Representative, Configuration, total_votes, IsValid, absent_prefix, Prefix, LockMode, Exclusive, Has, contains_from, Said, Told, has_told, newest, Collector, next, Current, hint}
+use Rattle.law_agents.proofs.Vocabulary.{hint_has, has_to, GatheredSuite, known_of, change_of, Job, Fixed, Change, Agent, Event, Take, Forget, next_of, take, begin, forget, is_idle, after_all, Exchange, exchange_of, exchanges, of_job, told_of}
+use Rattle.law_agents.proofs.Vocabulary.{has_said, holding, refusing, task_of, IsStart, WasGathered, SetsVotes, IsShort, untold_before, kind_of, told_said, agent_after, VotesAreValid}
 use Rattle.file_exec.specs.KnownSuites.{KnownSuite}
 use Rattle.file_exec.proofs.Unset.{changes_are_held}
 use Rattle.suite_collect.proofs.Sources.{some_needed}

@@ -1,7 +1,7 @@
 -- A sweep asks in order.
-use Rattle.law_agents.proofs.Vocabulary.{◌≡◌, ℕ, ◌+◌, Bool, true, false, cond, List, [], ◌∷◌, ◌++◌, Option, Some, None, refl, sym, ap, subst, ◌∙◌, arith, ◌==◌, ◌&&◌, not, nat_lt, same_Some, Service, Lock, Request, Reply, Verdict, Response}
-use Rattle.law_agents.proofs.Vocabulary.{Replied, Lacked, Ending, Swept, Job, Sweep, home_of, Fixed, Sweeping, Listing, Resolving, Telling, Breaking, SweepRun, Doing, Running, RunningSweep, After, GoesOn, Ends, Agent, Event, next_in}
-use Rattle.law_agents.proofs.Vocabulary.{next_of, end_of, take_in, begin, started, is_idle, has_sense, max_jobs, after_all, Exchange, exchange_of, of_job, count_of, is_finish, self, exchanges-take}
+use Rattle.law_agents.proofs.Vocabulary.{◌≡◌, ℕ, ◌+◌, Bool, true, false, cond, List, [], ◌∷◌, ◌++◌, Option, Some, None, refl, sym, ap, subst, ◌∙◌, arith, ◌==◌, ◌&&◌, not, nat_lt, same_Some, Service, Lock, Request, Reply, Verdict, Response, Replied}
+use Rattle.law_agents.proofs.Vocabulary.{Lacked, Ending, Swept, Job, Sweep, home_of, Fixed, Sweeping, Listing, Resolving, Telling, Breaking, SweepRun, Doing, Running, RunningSweep, After, GoesOn, Ends, Agent, Event, next_in, next_of, end_of, take_in}
+use Rattle.law_agents.proofs.Vocabulary.{begin, started, is_idle, has_sense, max_jobs, after_all, Exchange, exchange_of, of_job, count_of, is_finish, self, exchanges-take}
 use Rattle.rep_core.specs.Locks.{is_own, has_prepared}
 use Rattle.txn_core.specs.Sweeps.{rising, others, asked_now, sweep_on}
 use Rattle.law_agents.specs.SweepOrders.{without, left_then, left_from, left_by, for_first, after_told, after_last, last_or, to_sweep, SweepsAskSo, says_done, says_verdict, is_break, is_resolve, IsSwept, SweepsCount}

@@ -1,10 +1,10 @@
 -- The names that the proofs of this crate take from elsewhere, each with one meaning here.
-pub use Rattle.std.proofs.Common.{Bool, Contains, Equal, Err, Greater, IsSome, Less, List, None, Ok, Option, Some, [], ap, append_assoc, arith, cond, false, filter, find, inl, inr, is_some, length, map, min, nat_le, nat_lt, not, option_map}
-pub use Rattle.std.proofs.Common.{refl, slice_get, slice_set, subst, suc, sym, true, zero, ℕ, ⊎_elim, ◌%◌, ◌&&◌, ◌*◌, ◌++◌, ◌+◌, ◌-◌, ◌/◌, ◌<◌, ◌==◌, ◌||◌, ◌∙◌, ◌∷◌, ◌≡◌, ◌≢◌, ◌≤◌, ◌⊎◌}
+pub use Rattle.std.proofs.Common.{Bool, Contains, Equal, Err, Greater, IsSome, Less, List, None, Ok, Option, Some, [], ap, append_assoc, arith, cond, false, filter, find, inl, inr, is_some, length, map, min, nat_le, nat_lt, not, option_map, refl}
+pub use Rattle.std.proofs.Common.{slice_get, slice_set, subst, suc, sym, true, zero, ℕ, ⊎_elim, ◌&&◌, ◌*◌, ◌++◌, ◌+◌, ◌-◌, ◌<◌, ◌==◌, ◌||◌, ◌∙◌, ◌∷◌, ◌≡◌, ◌≢◌, ◌≤◌, ◌⊎◌}
 pub use Rattle.std.proofs.lemmas.Bool.{and_parts, eq-eqb, eqb-true, false≢true}
 pub use Rattle.std.proofs.lemmas.Bool.Decides.{nat_tests}
 pub use Rattle.std.proofs.lemmas.List.{append-nil, map-append}
-pub use Rattle.std.proofs.lemmas.List.Elements.{All-contains, Contains-append_left, Contains-append_right, Contains-push_cases, filter-append}
+pub use Rattle.std.proofs.lemmas.List.Elements.{Contains-append_left, Contains-append_right, Contains-push_cases, filter-append}
 pub use Rattle.std.proofs.lemmas.Option.{none-some, same_Some}
 pub use Rattle.std.specs.BTreeMap.{is_at}
 pub use Rattle.std.specs.List.{cons_option, list_all, list_any}
@@ -18,7 +18,7 @@ pub use Rattle.file_exec.specs.declared.edit_log.Edit.{Edit}
 pub use Rattle.file_exec.specs.declared.edit_log.Edit.TheVariants.{Make, SetAcl, SetContent, SetVotes}
 pub use Rattle.file_exec.specs.declared.executor.Outcome.{Outcome}
 pub use Rattle.file_exec.specs.declared.need.Need.TheVariants.{Hold, Know}
-pub use Rattle.file_ops.specs.KnownVotes.{known_votes, lists_unknown, votes_of_new}
+pub use Rattle.file_ops.specs.KnownVotes.{lists_unknown}
 pub use Rattle.file_ops.specs.Rows.{Row}
 pub use Rattle.file_ops.specs.declared.answer.Answer.{Answer}
 pub use Rattle.file_ops.specs.declared.operation.Op.{Op}
@@ -32,9 +32,9 @@ pub use Rattle.rep_core.specs.declared.request.Request.{Request}
 pub use Rattle.run_core.specs.Runs.{after, dones, outcomes, run}
 pub use Rattle.run_core.specs.declared.done.EndedJob.{EndedJob}
 pub use Rattle.sorted_map.specs.SortedMap.{IsOrdered, insert}
-pub use Rattle.suite_collect.specs.Collecting.{Ask, Asked, Collector, Current, Next, Poll, Short, Upgrade, all_told, ask_or_short, asked_of, counted, got, is_left, is_member, members_of, mode_asked, mode_of, mode_or, needed, next}
-pub use Rattle.suite_collect.specs.Collecting.{request_for, tell, told_since, version, votes_or, wanted}
-pub use Rattle.suite_collect.specs.Telling.{has_told, holds, is_held, newer, newest, shown}
+pub use Rattle.suite_collect.specs.Collecting.{Ask, Asked, Collector, Current, Next, Poll, Upgrade, all_told, ask_or_short, asked_of, counted, got, is_left, is_member, members_of, mode_asked, mode_of, mode_or, needed, next, request_for, tell}
+pub use Rattle.suite_collect.specs.Collecting.{told_since, version, votes_or, wanted}
+pub use Rattle.suite_collect.specs.Telling.{has_told, holds, is_held, newer, newest}
 pub use Rattle.suite_collect.specs.declared.told.Said.{Said}
 pub use Rattle.suite_collect.specs.declared.told.Told.{Told}
 pub use Rattle.suite_content.specs.declared.content.Content.{Content}
@@ -47,21 +47,21 @@ pub use Rattle.txn_core.proofs.Asks.{asked_as, asks_same, fetched_as}
 pub use Rattle.txn_core.proofs.Bound.{ends_in_time}
 pub use Rattle.txn_core.proofs.Causes.{StandsOn}
 pub use Rattle.txn_core.proofs.Gathers.{Base, Each, EachBut, Kept, Sets, Wants, but_with, each_but, each_with, self, untold_before, with_at}
-pub use Rattle.txn_core.proofs.Locks.{Keeps, all_keep, begin_keeps, nothing_held, plus_all, serves_shared}
+pub use Rattle.txn_core.proofs.Locks.{Keeps, all_keep, begin_keeps, nothing_held, plus_all}
 pub use Rattle.txn_core.proofs.Shown.{kind_of, told_said, votes_same}
-pub use Rattle.txn_core.proofs.Swept.{IsNoCourse, no_course, sweep_ends_in_time}
+pub use Rattle.txn_core.proofs.Swept.{IsNoCourse, sweep_ends_in_time}
 pub use Rattle.txn_core.proofs.ToldLists.{Are, all_told-tell, are_nil, are_opened, are_same, are_with, asks_lock, told_raised}
 pub use Rattle.txn_core.proofs.Upheld.{Base_of, Begins, DoingStands, Started, after-append, exchanges-forget, exchanges-take, stands_after, started_is}
 pub use Rattle.txn_core.proofs.Walk.{IsEarly, goes_execute, goes_response}
 pub use Rattle.txn_core.specs.Agents.{Agent, Event, Forget, Take, Taken, after_all, begin, begins, end_of, fixed_of, forget, has_sense, is_idle, left, max_jobs, max_sites, next_in, next_of, started, take, take_in}
-pub use Rattle.txn_core.specs.Doing.{After, Breaking, Changes, Deciding, Doing, Ends, Fetching, Finishing, Fixed, Gathering, GoesOn, Granted, Listing, Phase, Preparing, Proposal, Resolving, Running, RunningSweep, SweepRun, Sweeping, Task}
-pub use Rattle.txn_core.specs.Doing.{Telling, TransactionRun, Widening, home_of}
-pub use Rattle.txn_core.specs.Laws.{Exchange, IsReady, IsStart, among, asks_only, count_of, exchange_of, exchanges, has_said, holding, is_decide, is_prepare, listed, listed_in, locks, more_told, names_of, names_only, of_job, refusing}
-pub use Rattle.txn_core.specs.Laws.{said_by, says_held, says_prepared, task_of, told_by, told_of, told_verdict, was_held}
+pub use Rattle.txn_core.specs.Doing.{After, Breaking, Changes, Deciding, Doing, Ends, Fetching, Finishing, Fixed, Gathering, GoesOn, Granted, Listing, Phase, Preparing, Proposal, Resolving, Running, RunningSweep, SweepRun, Sweeping, Task, Telling}
+pub use Rattle.txn_core.specs.Doing.{TransactionRun, Widening, home_of}
+pub use Rattle.txn_core.specs.Laws.{Exchange, IsReady, IsStart, among, asks_only, count_of, exchange_of, exchanges, has_said, holding, is_decide, is_prepare, listed, listed_in, locks, more_told, names_of, names_only, of_job, refusing, said_by}
+pub use Rattle.txn_core.specs.Laws.{says_held, says_prepared, task_of, told_by, told_of, told_verdict, was_held}
 pub use Rattle.txn_core.specs.Suites.{GatheredSuite, ReadPoint, Suites, first_or, has_locks, holds_lock, known_if, known_of, known_row, row_with, settled, source_of, suite_of, told_in, with_suite}
-pub use Rattle.txn_core.specs.Transactions.{Gathered, Step, after_response, after_search, asked_by, asked_for, cause_of_abort, changes_of, collected, decision_of, ending_by, execute, fetched, fetched_at, fetched_for, free_content}
-pub use Rattle.txn_core.specs.Transactions.{gather_by, give_up, given_in, hear, heard_of, heard_on, is_poll, keep_content, lack_cause, locked_at, numbers_from, open_first, open_needed, open_suite, opened, opened_with, or_all, prepare}
-pub use Rattle.txn_core.specs.Transactions.{prepared, proceed, raised_or_new, request_in, request_of, said_to, short_cause, start_from, tell_end, to_widen, verdict_in, votes_after, votes_then, widen_all, widen_by, widen_one, widened}
+pub use Rattle.txn_core.specs.Transactions.{Gathered, Step, after_response, after_search, asked_by, asked_for, cause_of_abort, changes_of, collected, decision_of, ending_by, execute, fetched, fetched_at, fetched_for, free_content, gather_by, give_up}
+pub use Rattle.txn_core.specs.Transactions.{given_in, hear, heard_of, heard_on, keep_content, lack_cause, locked_at, numbers_from, open_first, open_needed, open_suite, opened, opened_with, or_all, prepare, prepared, proceed, raised_or_new}
+pub use Rattle.txn_core.specs.Transactions.{request_in, request_of, said_to, short_cause, start_from, tell_end, to_widen, verdict_in, votes_after, votes_then, widen_all, widen_by, widen_one, widened}
 pub use Rattle.txn_core.specs.Undecided.{IsShort, SetsVotes, WasGathered, is_finish}
 pub use Rattle.txn_core.specs.Writing.{change_of, parts_at}
 pub use Rattle.txn_core.specs.declared.ending.Cause.{Cause}

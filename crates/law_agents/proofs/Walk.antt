@@ -1,11 +1,11 @@
 -- What a transaction keeps: it asks somebody, and whomever it asks, votes or the service name.
-use Rattle.law_agents.proofs.Vocabulary.{◌≡◌, ℕ, zero, suc, ◌<◌, Bool, true, false, cond, List, [], ◌∷◌, ◌++◌, Option, Some, None, Ok, Err, refl, sym, ap, subst, ◌∙◌, Less, Equal, Greater, ◌==◌, ◌&&◌, ◌||◌, length, filter, option_map}
-use Rattle.law_agents.proofs.Vocabulary.{unwrap_or, is_some, nat_cmp, match_ordering, is_at, none-some, same_Some, insert, Configuration, max_servers, Content, absent_prefix, Prefix, LockMode, Shared, Exclusive, serves, Row, lists_unknown}
-use Rattle.law_agents.proofs.Vocabulary.{Answer, Change, Edit, SetAcl, SetVotes, SetContent, Make, Hold, Know, Known, Heard, Needs, Done, known_rows, exec_of, Verdict, is_held, holds, newest, Entry, Cache, hint, searched_has, hint_has}
-use Rattle.law_agents.proofs.Vocabulary.{ReadPoint, GatheredSuite, Suites, suite_of, with_suite, row_with, known_row, known_if, known_of, holds_lock, has_locks, change_of, Cause, Ending, Undecided, Changes, Granted, home_of, Fixed, Task}
-use Rattle.law_agents.proofs.Vocabulary.{Proposal, Phase, Gathering, Fetching, Preparing, Deciding, Finishing, TransactionRun, After, GoesOn, Ends, Step, Gathered, tell_end, give_up, prepare, locked_at, numbers_from, short_cause, gather_by}
-use Rattle.law_agents.proofs.Vocabulary.{start_from, widen_by, widen_one, widened, widen_all, to_widen, votes_then, votes_after, opened, or_all, open_needed, open_suite, open_first, opened_with, after_search, free_content, heard_on}
-use Rattle.law_agents.proofs.Vocabulary.{raised_or_new, proceed, execute, Each, EachBut, each_but, each_with, with_at, self, reads_known, Outcome as Executed, Widening as Widens}
+use Rattle.law_agents.proofs.Vocabulary.{◌≡◌, ℕ, zero, suc, ◌<◌, Bool, true, false, cond, List, [], ◌∷◌, ◌++◌, Option, Some, None, Ok, Err, refl, sym, ap, subst, ◌∙◌, Less, Equal, Greater, ◌==◌, ◌&&◌, ◌||◌, length, filter, option_map, unwrap_or}
+use Rattle.law_agents.proofs.Vocabulary.{is_some, nat_cmp, match_ordering, is_at, none-some, same_Some, insert, Configuration, max_servers, Content, absent_prefix, Prefix, LockMode, Shared, Exclusive, serves, Row, lists_unknown, Answer, Change, Edit}
+use Rattle.law_agents.proofs.Vocabulary.{SetAcl, SetVotes, SetContent, Make, Hold, Know, Known, Heard, Needs, Done, known_rows, exec_of, Verdict, is_held, holds, newest, Entry, Cache, hint, searched_has, hint_has, ReadPoint, GatheredSuite, Suites}
+use Rattle.law_agents.proofs.Vocabulary.{suite_of, with_suite, row_with, known_row, known_if, known_of, holds_lock, has_locks, change_of, Cause, Ending, Undecided, Changes, Granted, home_of, Fixed, Task, Proposal, Phase, Gathering, Fetching}
+use Rattle.law_agents.proofs.Vocabulary.{Preparing, Deciding, Finishing, TransactionRun, After, GoesOn, Ends, Step, Gathered, tell_end, give_up, prepare, locked_at, numbers_from, short_cause, gather_by, start_from, widen_by, widen_one, widened}
+use Rattle.law_agents.proofs.Vocabulary.{widen_all, to_widen, votes_then, votes_after, opened, or_all, open_needed, open_suite, open_first, opened_with, after_search, free_content, heard_on, raised_or_new, proceed, execute, Each, EachBut, each_but}
+use Rattle.law_agents.proofs.Vocabulary.{each_with, with_at, self, reads_known, Outcome as Executed, Widening as Widens}
 use Rattle.std.specs.declared.cmp.Ordering.{Ordering}
 use Rattle.sorted_map.specs.Laws.{insert_step}
 use Rattle.suite_prefix.specs.declared.copies.PrefixKind.{PrefixKind}

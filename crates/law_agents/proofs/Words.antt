@@ -1,14 +1,14 @@
 -- What a transaction keeps after each response, and what a sweep keeps: it asks somebody, and whom it may.
-use Rattle.law_agents.proofs.Vocabulary.{◌≡◌, ⊎_elim, ℕ, Bool, true, false, cond, List, [], ◌∷◌, Option, Some, None, refl, sym, ap, subst, ◌∙◌, none-some, same_Some, Configuration, Content, Prefix, Request, Reply, is_prepared, Told, Said}
-use Rattle.law_agents.proofs.Vocabulary.{newest, Entry, Cache, put, put_has, ReadPoint, GatheredSuite, Suites, suite_of, with_suite, source_of, first_or, settled, Response, Replied, Lacked, Lost, Granted, Fixed, Task, Proposal, Phase}
-use Rattle.law_agents.proofs.Vocabulary.{Gathering, Fetching, Preparing, Deciding, Finishing, Step, give_up, prepare, locked_at, short_cause, widen_all, keep_content, heard_of, said_to, execute, collected, hear, fetched, prepared}
-use Rattle.law_agents.proofs.Vocabulary.{after_response, asked_by, asked_for, given_in, verdict_in, ending_by, cause_of_abort, lack_cause, request_in, Each, each_with, but_with, asks_same, Widening as Widens}
+use Rattle.law_agents.proofs.Vocabulary.{◌≡◌, ⊎_elim, ℕ, Bool, true, false, cond, List, [], ◌∷◌, Option, Some, None, refl, sym, ap, subst, ◌∙◌, none-some, same_Some, Configuration, Content, Prefix, Request, Reply, is_prepared, Told, Said, newest}
+use Rattle.law_agents.proofs.Vocabulary.{Entry, Cache, put, put_has, ReadPoint, GatheredSuite, Suites, suite_of, with_suite, source_of, first_or, settled, Response, Replied, Lacked, Lost, Granted, Fixed, Task, Proposal, Phase, Gathering, Fetching}
+use Rattle.law_agents.proofs.Vocabulary.{Preparing, Deciding, Finishing, Step, give_up, prepare, locked_at, short_cause, widen_all, keep_content, heard_of, said_to, execute, collected, hear, fetched, prepared, after_response, asked_by, asked_for}
+use Rattle.law_agents.proofs.Vocabulary.{given_in, verdict_in, ending_by, cause_of_abort, lack_cause, request_in, Each, each_with, but_with, asks_same, Widening as Widens}
 use Rattle.suite_collect.specs.Collecting.{Widening, Collector, told_since, counted, votes_or, mode_of, mode_asked, request_for, tell, tell_at, Asked, Poll, Upgrade, Next, Ask, Current, Short, next}
 use Rattle.rep_core.specs.declared.reply.Reply.TheVariants as reply
 use Rattle.suite_collect.specs.declared.told.Said.TheVariants as said
 use Rattle.law_agents.proofs.Collectors.{IsPlain, asks_shared, current_gives, AllReps, SaysSo, AllTold, AllIn, newest_so, asked_so, given_so}
 use Rattle.law_agents.proofs.Walk as walk
-use Rattle.law_agents.proofs.Walk.{Goes, Fine, AllFine, Full, Asking, Gathers, InPhase, CacheFine, Goes', Leaves, Whole}
+use Rattle.law_agents.proofs.Walk.{Goes, Fine, AllFine, Full, Asking, InPhase, CacheFine, Leaves}
 
 module _ (fixed : Fixed) (V : Configuration → Type 0) (S : ℕ → Type 0) (goes : Goes fixed V S) where
   abbrev Names : Configuration → Type 0

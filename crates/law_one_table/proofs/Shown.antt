@@ -65,12 +65,6 @@ made_sets known edits suite change is = search (changes_by_suite, none-some, sam
 made_row : (k : Kind) (prefix : Prefix) (content : Content) → row_with (prefix_kind k) prefix (Some content) ≡ Some (record { owner = prefix.owner; group = prefix.group; acl = prefix.acl; votes = prefix.votes; content = content })
 made_row k prefix content = search arith
 
-pub fits_kind : (k : Kind) (content : Content) → kind_of content ≡ k → FitsAs (prefix_kind k) content
-fits_kind k content h2 = search arith
-
-pub kind_empty : (k : Kind) → kind_of (empty_content k) ≡ k
-kind_empty k = search arith
-
 module _ (first : ReadPoint) (change : executor.Change) (held : Replica) (before after : Option Row) (shown : IsShown held before) (tells : Tells change before after) (made : change.made ≡ true → change.content ≡ true) where
   -- neither is: the content stays
   there : change.content ≡ false → is_some before ≡ true
