@@ -81,7 +81,7 @@ def compiles(tally: played.Tally) -> None:
         for name, text in {**texts, "main": root}.items():
             played.put(os.path.join(own, "src", f"{name}.rt"), text)
         done = played.done(["rt", "try"], cwd=own)
-    tally.fails(done.status != 0 and (done.out + done.err)[-4000:])
+    tally.fails(done.status != 0 and f"status {done.status}: {(done.out + done.err)[-4000:]}")
 
 
 if __name__ == "__main__":

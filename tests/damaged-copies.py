@@ -91,7 +91,7 @@ def damages(tally: played.Tally) -> None:
     lengths = ", ".join(str(len(one)) for one in all_copies)
     print(f"{len(all_copies)} copies of {lengths} bytes, seed {given.seed}; {time.monotonic() - begun:.1f} s", done.out)
     tally.count = given.cases
-    tally.fails(done.status != 0 and done.err)
+    tally.fails(done.status != 0 and f"status {done.status}: {done.err}")
 
 
 if __name__ == "__main__":

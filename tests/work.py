@@ -69,10 +69,10 @@ def of_a_job(program: str, script: Make, jobs: int) -> float:
 
 def is_skipped(tally: played.Tally) -> bool:
     """Whether nothing can be counted here, or the kit makes no program but runs it itself; says so."""
-    is_run = not counting.is_skipped() and played.got(tally.program)[:4] != b"\x7fELF"
-    if is_run:
+    is_compiled = played.got(tally.program)[:4] == b"\x7fELF"
+    if not is_compiled:
         print("skipped: the kit runs the program itself")
-    return is_run or counting.is_skipped()
+    return not is_compiled or counting.is_skipped()
 
 
 def pairs(tally: played.Tally) -> None:
