@@ -2,7 +2,7 @@
 """tests/against-the-kernel.py [--lists N] [--seed SEED] [PROGRAM]
 
 Compares random access lists with this Linux: what access(2) answers to random callers with what `suites table` does for
-them; and what setfacl takes and getfacl prints with what `suites acl` does. The program is `./suites` if none is named.
+them; and what setfacl takes and getfacl prints with what `suites acl` does.
 
 Known to differ, each told apart and counted. Of Linux:
   mask       Where the mask is `---` Linux looks at no list: whom only a named user or group matches gets what all
@@ -21,12 +21,12 @@ All else has to agree. Status 1 where it does not.
 
 It needs root, Debian's package acl, and a file system with lists, here /dev/shm (tmpfs). It is no part of the gate.
 """
+import collections
 import ctypes
 import os
 import random
 import re
 import shutil
-import subprocess
 import sys
 import tempfile
 import typing
@@ -35,7 +35,6 @@ import played
 from kernel_trees import User, as_user
 
 UIDS, GIDS = [1001, 1002, 1003, 1004, 65534], [200, 201, 202, 203, 65533]
-COUNTED = "answers, agree, mask, texts, taken, refused, last id, octal, past, nothing, hyphens, mended, wrong"
 LETTERS = {"u": "user", "g": "group", "m": "mask", "o": "other"}
 # What is asked of Linux, and how `table` is asked the same.
 ASKED = [
@@ -90,8 +89,8 @@ class Dice(random.Random):
         return items
 
 
-def run(words: list[str], text: str = "") -> subprocess.CompletedProcess[str]:
-    return subprocess.run(words, input=text, stdout=subprocess.PIPE, stderr=subprocess.DEVNULL, text=True)
+def run(words: list[str], text: str = "") -> played.Done:
+    return played.done(words, text)
 
 
 def kernel_answers(place: str, callers: typing.Any) -> list[list[bool]]:
@@ -113,9 +112,9 @@ def table_answers(program: str, owner: int, group: int, items: list[str], caller
     for number, (uid, groups) in enumerate(callers):
         script += [f"do {uid} {','.join(map(str, groups))} {op.format(number)}" for _, _, op in ASKED]
     done = run([program, "table"], "\n".join(script) + "\n")
-    words = [line.split()[1] for line in done.stdout.splitlines()[1:]]
+    words = [line.split()[1] for line in done.out.splitlines()[1:]]
     are_all = len(words) == len(callers) * len(ASKED)
-    assert done.returncode == 0 and set(words) <= {"answered", "denied"} and are_all, done
+    assert done.status == 0 and set(words) <= {"answered", "denied"} and are_all, done
     own = [word == "answered" for word in words]
     return [own[place : place + len(ASKED)] for place in range(0, len(own), len(ASKED))]
 
@@ -138,29 +137,25 @@ def others_get(items: list[str]) -> list[bool]:
     ]
 
 
-def check_access(program: str, place: str, dice: Dice, tally: dict[str, int]) -> None:
+def check_access(tally: played.Tally, place: str, dice: Dice, counts: collections.Counter[str]) -> None:
     """Compares a random list's answers to random callers."""
     items, owner, group = dice.entries(), dice.choice(UIDS), dice.choice(GIDS)
     callers = [(owner, [dice.choice(GIDS)])] + [dice.caller() for _ in range(11)]
     for name in ("f", "d"):
         path = os.path.join(place, name)
-        assert run(["setfacl", "-n", "--set", ",".join(items), path]).returncode == 0, items
+        assert run(["setfacl", "-n", "--set", ",".join(items), path]).status == 0, items
         os.chown(path, owner, group)
-    ours = table_answers(program, owner, group, items, callers)
+    ours = table_answers(tally.program, owner, group, items, callers)
     for caller, kernel, own in zip(callers, kernel_answers(place, callers), ours):
-        tally["answers"] += len(own)
-        if kernel == own:
-            tally["agree"] += len(own)
-        elif is_masked_out(owner, group, items, caller) and kernel == others_get(items) and not any(own):
-            tally["mask"] += len(own)
-        else:
-            tally["wrong"] += 1
-            print(f"{','.join(items)} of {owner}:{group}, caller {caller}: Linux {kernel}, suites {own}")
+        is_mask = is_masked_out(owner, group, items, caller) and kernel == others_get(items) and not any(own)
+        about = f"{','.join(items)} of {owner}:{group}, caller {caller}: Linux {kernel}, suites {own}"
+        tally.holds(kernel == own or is_mask, about)
+        counts["agree" if kernel == own else "mask"] += len(own)
 
 
 def told_by_getfacl(path: str) -> str:
     """What getfacl prints of a path, without its head and with one tab before each remark."""
-    lines = run(["getfacl", "-np", path]).stdout.splitlines()
+    lines = run(["getfacl", "-np", path]).out.splitlines()
     return "".join(re.sub("\t+", "\t", line) + "\n" for line in lines if line and not line.startswith("#"))
 
 
@@ -191,45 +186,36 @@ def known_oddity(text: str, fault: str) -> str | None:
     return "nothing" if re.search(r":[ \t]*(#.*)?$", text, re.M) else None
 
 
-def check_text(program: str, place: str, dice: Dice, tally: dict[str, int]) -> None:
+def check_text(tally: played.Tally, place: str, dice: Dice, counts: collections.Counter[str]) -> None:
     """Compares what is made of a random text."""
     items = dice.entries() + (dice.entries("d:") if dice.random() < 0.4 else [])
     if dice.random() < 0.6:
         items = dice.spoiled(items)
     text, path = "\n".join(items) + "\n", os.path.join(place, "d")
     run(["setfacl", "-b", path])
-    taken = run(["setfacl", "-n", "--set-file=-", path], text).returncode == 0
-    own = run([program, "acl"], text)
+    taken = run(["setfacl", "-n", "--set-file=-", path], text).status == 0
+    own = run([tally.program, "acl"], text)
     told = told_by_getfacl(path) if taken else ""
-    tally["texts"] += 1
-    if (own.returncode == 0) == taken and (not taken or own.stdout == told == run([program, "acl"], told).stdout):
-        tally["taken" if taken else "refused"] += 1
-    elif known_oddity(text, own.stdout.strip()):
-        tally[known_oddity(text, own.stdout.strip())] += 1
-    else:
-        tally["wrong"] += 1
-        theirs = f"takes it as {told!r}" if taken else "refuses it"
-        print(f"{text!r}: Linux {theirs}, suites {own.returncode}, {own.stdout!r}")
+    is_same = (own.status == 0) == taken and (not taken or own.out == told == run([tally.program, "acl"], told).out)
+    kind = ("taken" if taken else "refused") if is_same else known_oddity(text, own.out.strip())
+    tally.holds(kind, repr(text), f"Linux takes it: {taken}, as {told!r}, suites {own}")
+    counts[kind or "wrong"] += 1
 
 
-def main() -> int:
-    given = played.words(__doc__, "program", lists=300, seed=1)
-    program = given.program or os.path.join(played.TOP, "suites")
+def compares(tally: played.Tally) -> None:
     wanting = [name for name in ("setfacl", "getfacl") if not shutil.which(name)]
     if wanting or os.geteuid() != 0:
         sys.exit("this needs root" if not wanting else f"this needs {wanting[0]}, of Debian's package acl")
-    dice = Dice(given.seed)
-    tally = dict.fromkeys(COUNTED.split(", "), 0)
+    dice, counts = Dice(tally.given.seed), collections.Counter[str]()
     with tempfile.TemporaryDirectory(dir="/dev/shm") as place:
         os.chmod(place, 0o755)
         os.mkdir(os.path.join(place, "d"))
-        open(os.path.join(place, "f"), "w", encoding="utf-8").close()
-        for _ in range(given.lists):
-            check_access(program, place, dice, tally)
-            check_text(program, place, dice, tally)
-    print(", ".join(f"{count} {what}" for what, count in tally.items()))
-    return 1 if tally["wrong"] or not tally["answers"] else 0
+        played.put(os.path.join(place, "f"), "")
+        for _ in range(tally.given.lists):
+            check_access(tally, place, dice, counts)
+            check_text(tally, place, dice, counts)
+    print(", ".join(f"{count} {what}" for what, count in counts.items()))
 
 
 if __name__ == "__main__":
-    sys.exit(main())
+    played.plays(__doc__, "answers and texts", compares, program=None, lists=300, seed=1)

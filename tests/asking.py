@@ -1,28 +1,21 @@
 #!/usr/bin/env python3
 """tests/asking.py
-tests/asking.py --against PROTOTYPE [--scripts N] [--from SEED]
 
 Asks `./suites explore --ask` random questions of the scripts of examples/explore and tests/explored, and holds the
 answers against the ways that are kept in tests/explored/NAME.ways, which another program told; and questions with
 `before` against those that `--order` tells (tests/ordered.py looks at these). Where not all was looked at nothing is
-said to be never or always so. What is no question is a fault.
-
-With --against it asks of N random scripts (200 by default), and holds the answers against the ways that the other
-program tells of them now. Prints each that differs; status 1 where one does.
+said to be never or always so. What is no question is a fault. Prints each that differs; status 1 where one does.
 """
-import argparse
 import os
 import random
 import re
-import subprocess
-import tempfile
 import typing
 
 import explored
 import played
 from played import Tally
 
-from common import console, text_of, tool
+from common import text_of, tool
 
 STORY = os.path.join(explored.STORIES, "revocation.script")
 # How many questions are asked of a script at once, and of how many atoms each is at most.
@@ -105,12 +98,11 @@ def question(dice: random.Random, ways: list[tuple[str, ...]], atoms: int) -> As
     return Asked(f"({left.text} or {right.text})", lambda way: left.holds(way) or right.holds(way))
 
 
-def asked(path: str, words: list[str], questions: typing.Sequence[str]) -> tuple[int, str, str]:
-    """The exit status of `explore` for a script and questions, what it printed, and what it said."""
-    told = [*tool("explore"), *words, *(word for text in questions for word in ("--ask", text))]
+def asked(path: str, words: list[str], questions: typing.Sequence[str]) -> played.Done:
+    """What `explore` tells of a script and questions."""
     with open(path, "rb") as script:
-        done = subprocess.run(told, stdin=script, capture_output=True, cwd=played.TOP)
-    return done.returncode, done.stdout.decode(), done.stderr.decode()
+        asks = [word for text in questions for word in ("--ask", text)]
+        return played.done([*tool("explore"), *words, *asks], stdin=script, cwd=played.TOP)
 
 
 def wanted(one: Asked, ways: list[tuple[str, ...]], words: list[str], path: str) -> str:
@@ -130,86 +122,57 @@ def compare(path: str, words: list[str], ways: list[tuple[str, ...]], dice: rand
     """Compares answers with what these ways tell."""
     name = os.path.relpath(path, played.TOP)
     questions = [question(dice, ways, dice.randint(1, ATOMS)) for _ in range(AT_ONCE)]
-    status, told, said = asked(path, words, [one.text for one in questions])
-    found = re.sub(r"^all .*\n\Z", "", told, flags=re.M)
-    tally.holds(status == 0 and found != told, f"{name}: status {status}, and told is {told}{said}")
+    told = asked(path, words, [one.text for one in questions])
+    found = re.sub(r"^all .*\n\Z", "", told.out, flags=re.M)
+    tally.holds(told.status == 0 and found != told.out, name, told)
     for one in questions:
-        text = wanted(one, ways, words, os.path.relpath(path, played.TOP))
-        tally.holds(found.startswith(text), f"{name}: told is {found[:200]}, and not {text}")
+        text = wanted(one, ways, words, name)
+        tally.holds(found.startswith(text), name, f"told is {found[:200]}, and not {text}")
         found = found.partition("\n")[2] if not found.startswith("sometimes") else found.split("\n", 2)[2]
 
 
-def compare_kept(dice: random.Random, tally: Tally) -> None:
+def compare_kept(tally: Tally) -> None:
     """Asks of the scripts whose ways are kept whole."""
+    dice = random.Random(102)
     for one in explored.kept():
         if not one.is_brief:
             compare(one.path, one.words.split(), explored.read(one.ways), dice, tally)
 
 
-def compare_ordered(dice: random.Random, tally: Tally) -> None:
+def compare_ordered(tally: Tally) -> None:
     """Asks in which order jobs were decided: of ways that are told with it, and of others, which ask for it."""
+    dice = random.Random(7)
     for name, words in ORDERED:
         path, ordered = os.path.join(explored.STORIES, name), [*words, "--order"]
         ways = explored.read(explored.explored(text_of(path), " ".join(ordered))[1])
         for _ in range(3):
             compare(path, ordered, ways, dice, tally)
-        question = "0.1 before 1.0 or 1.0 before 0.1"
-        is_same = asked(path, words, [question]) == asked(path, ordered, [question])
-        tally.holds(is_same, f"{name}: {question} without --order")
+        question = ["0.1 before 1.0 or 1.0 before 0.1"]
+        tally.same(asked(path, words, question), asked(path, ordered, question), name, *question, "without --order")
 
 
 def compare_some(tally: Tally) -> None:
     """Where not all was looked at nothing is said to be never or always so."""
     for worlds in (1, 300):
         questions = ["0.1 answered read 00", "0.1 answered or not 0.1 answered", "1.0 denied"]
-        status, told, _ = asked(STORY, ["--worlds", str(worlds)], questions)
-        lines = [line for line in told.split("\n") if not line.startswith(" ")]
+        told = asked(STORY, ["--worlds", str(worlds)], questions)
+        lines = [line for line in told.out.split("\n") if not line.startswith(" ")]
         begun = [line.split(":")[0].split(",")[0] for line in lines[:3]]
-        so_far = {"never so far", "always so far", "sometimes"}
-        is_so = status == 7 and set(begun) <= so_far and lines[3].startswith("not all: ")
-        tally.holds(is_so, f"--worlds {worlds}: {told}")
-        tally.holds(begun[0] == "never so far", f"--worlds {worlds}: {told}")
+        are_so_far = set(begun) <= {"never so far", "always so far", "sometimes"}
+        is_so = told.status == 7 and are_so_far and lines[3].startswith("not all: ")
+        tally.holds(is_so, f"--worlds {worlds}", told)
+        tally.holds(begun[0] == "never so far", f"--worlds {worlds}", told)
 
 
 def compare_faults(tally: Tally) -> None:
     """What is no question is a fault, and nothing is printed."""
     for text, why in FAULTS:
-        status, told, said = asked(STORY, [], ["0.1 answered", text])
-        tally.holds((status, told) == (2, "") and why in said, f"'{text}': status {status}, {told}{said}")
+        told = asked(STORY, [], ["0.1 answered", text])
+        tally.holds(told[:2] == (2, "") and why in told.err, f"'{text}'", told, why)
     for words in (["--brief"], ["--way", "1"]):
-        status, told, said = asked(STORY, words, ["0.1 answered"])
-        tally.holds((status, told) == (2, ""), f"{words}: status {status}, {told}{said}")
-    path = os.path.join(played.TOP, "README.md")
-    tally.holds(asked(path, [], ["0.1 answered"])[0] == 3, "README.md is explored")
-
-
-def compare_random(given: argparse.Namespace, tally: Tally) -> None:
-    """Asks of random scripts, of which the other program tells the ways."""
-    seed, count = given.from_, 0
-    while count < given.scripts:
-        script, words = explored.Explorable(seed).whole()
-        seed += 1
-        ways = explored.prototype_ways(given.against, script, words, "descent")
-        if ways and "--forgets" not in words and "--returns" not in words:
-            count += 1
-            with tempfile.NamedTemporaryFile("w", suffix=".script") as file:
-                file.write(script)
-                file.flush()
-                compare(file.name, words.split(), ways.lines, random.Random(seed), tally)
-    print(f"{count} scripts of {seed - given.from_}")
-
-
-def main() -> int:
-    given, tally = played.words(__doc__, against="", scripts=200, from_=0), Tally()
-    if given.against:
-        compare_random(given, tally)
-    else:
-        compare_kept(random.Random(102), tally)
-        compare_ordered(random.Random(7), tally)
-        compare_some(tally)
-        compare_faults(tally)
-    return tally.told("answers compared")
+        tally.same(asked(STORY, words, ["0.1 answered"])[:2], (2, ""), words)
+    tally.same(asked(os.path.join(played.TOP, "README.md"), [], ["0.1 answered"]).status, 3, "README.md is explored")
 
 
 if __name__ == "__main__":
-    console.run(main, "stopped")
+    played.plays(__doc__, "answers compared", compare_kept, compare_ordered, compare_some, compare_faults)

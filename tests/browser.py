@@ -11,7 +11,7 @@ import time
 from collections.abc import Iterator
 from typing import Any
 
-from played import Tally, words
+from played import Tally
 
 NAMES = ("chromium", "chromium-browser", "google-chrome")
 # How long an answer of the browser may take, and how much of it is read at once.
@@ -33,11 +33,6 @@ def opened(tally: Tally) -> Iterator["Browser | None"]:
         tally.holds(not driver.faults, "the console has faults", driver.faults[:3])
     finally:
         driver.close()
-
-
-def shots(doc: str) -> str:
-    """The folder for pictures of the pages, where the words of the test name one."""
-    return words(doc, shots="").shots
 
 
 class Browser:

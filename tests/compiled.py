@@ -8,8 +8,6 @@ where the crates change. All of them become one program, each a module of it, in
 import glob
 import os
 import re
-import subprocess
-import sys
 import tempfile
 
 import played
@@ -72,21 +70,19 @@ def unused() -> list[str]:
     return sorted(there - kept)
 
 
-def main() -> int:
-    texts, count = modules()
-    wrong = [f"tests/programs/{name}.rt.txt belongs to no program of tests/compiled.py" for name in unused()]
+def compiles(tally: played.Tally) -> None:
+    texts, tally.count = modules()
+    tally.fails(*(f"tests/programs/{name}.rt.txt belongs to no program of tests/compiled.py" for name in unused()))
+    tally.fails(tally.count < FEWEST and f"only {tally.count} programs are found")
     with tempfile.TemporaryDirectory(prefix="suites-") as copy:
         own = scratch.placed(copy, "all_programs", named(texts), {})
         own_modules = {os.path.basename(part) for part in MADE_OF[ROOT]}
         root = as_root(texts.pop(ROOT), sorted(set(texts) - own_modules))
         for name, text in {**texts, "main": root}.items():
             played.put(os.path.join(own, "src", f"{name}.rt"), text)
-        done = subprocess.run(["rt", "try"], cwd=own, stdin=subprocess.DEVNULL, capture_output=True, text=True)
-    if done.returncode != 0:
-        wrong.append((done.stdout + done.stderr)[-4000:])
-    wrong += [f"only {count} programs are found"] if count < FEWEST else []
-    return played.verdict(count, "programs", wrong)
+        done = played.done(["rt", "try"], cwd=own)
+    tally.fails(done.status != 0 and f"status {done.status}: {(done.out + done.err)[-4000:]}")
 
 
 if __name__ == "__main__":
-    sys.exit(main())
+    played.plays(__doc__, "programs", compiles)

@@ -6,15 +6,17 @@ import sys
 import tempfile
 import typing
 
+import played
+
 COUNTING = ["valgrind", "--tool=callgrind", "--callgrind-out-file=/dev/null"]
 
 
-def skipped() -> bool:
+def is_skipped(_: object = None) -> bool:
     """Says so where nothing can be counted here."""
-    if shutil.which("valgrind"):
-        return False
-    print("skipped: valgrind is not installed, so no instructions are counted")
-    return True
+    is_there = shutil.which("valgrind") is not None
+    if not is_there:
+        print("skipped: valgrind is not installed, so no instructions are counted")
+    return not is_there
 
 
 def instructions(words: list[str], given: str | bytes, is_well: bool = False, **how: typing.Any) -> int:
@@ -24,9 +26,8 @@ def instructions(words: list[str], given: str | bytes, is_well: bool = False, **
     with tempfile.TemporaryFile() as source:
         source.write(given if isinstance(given, bytes) else given.encode("latin1"))
         source.seek(0)
-        silent: dict[str, typing.Any] = {"stdout": subprocess.DEVNULL, "stderr": subprocess.PIPE}
-        done = subprocess.run([*COUNTING, *words], stdin=source, **silent, **how)
-    found = re.search(rb"Collected : (\d+)", done.stderr)
-    if not found or is_well and done.returncode != 0:
-        sys.exit(f"{words} ends with {done.returncode}: {done.stderr.decode('utf-8', 'replace')[-600:]}")
+        done = played.done([*COUNTING, *words], stdin=source, stdout=subprocess.DEVNULL, **how)
+    found = re.search(r"Collected : (\d+)", done.err)
+    if not found or is_well and done.status != 0:
+        sys.exit(f"{words} ends with {done.status}: {done.err[-600:]}")
     return int(found[1])

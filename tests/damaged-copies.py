@@ -1,16 +1,15 @@
 #!/usr/bin/env python3
-"""tests/damaged-copies.py [CASES [SEED]]
+"""tests/damaged-copies.py [--cases N] [--seed SEED]
 
-Changes two bytes of copies, in a million seeded cases (CASES another number), and looks whether what is read then is
+Changes two bytes of copies, in a million seeded cases (N another number), and looks whether what is read then is
 refused, or is a copy that is written in just these bytes. The copies are written here, by the rules of their bytes
 and not by ours: the worked one, files with many entries, folders with many names. Prints how many were read and
 refused, and why; status 1 where one was neither. Builds a program for it (tests/scratch.py), which needs `rt`.
 """
-import subprocess
-import sys
 import time
 import typing
 
+import played
 import scratch
 
 
@@ -85,20 +84,15 @@ def copies() -> list[bytes]:
     ]
 
 
-def main() -> int:
-    cases, seed = scratch.cases_and_seed(__doc__, 1_000_000)
-    all_copies = copies()
+def damages(tally: played.Tally) -> None:
+    given, all_copies, begun = tally.given, copies(), time.monotonic()
     program = scratch.built("damaged_copies", ["byte_streams", "suite_prefix"])
-    given = "\n".join([f"{seed} {cases}", *(one.hex() for one in all_copies)]) + "\n"
-    begun = time.monotonic()
-    done = subprocess.run([program], input=given.encode(), stdout=subprocess.PIPE)
+    done = played.done([program], "\n".join([f"{given.seed} {given.cases}", *(one.hex() for one in all_copies), ""]))
     lengths = ", ".join(str(len(one)) for one in all_copies)
-    print(
-        f"{cases} cases of {len(all_copies)} copies of {lengths} bytes, seed {seed}; {time.monotonic() - begun:.1f} s"
-    )
-    print(done.stdout.decode(), end="")
-    return 0 if done.returncode == 0 else 1
+    print(f"{len(all_copies)} copies of {lengths} bytes, seed {given.seed}; {time.monotonic() - begun:.1f} s", done.out)
+    tally.count = given.cases
+    tally.fails(done.status != 0 and f"status {done.status}: {done.err}")
 
 
 if __name__ == "__main__":
-    sys.exit(main())
+    played.plays(__doc__, "cases", damages, cases=1_000_000, seed=1)

@@ -1,8 +1,7 @@
 #!/usr/bin/env python3
 """tests/damaged-runs.py [PROGRAM]
 
-Runs every file of examples/ as it is played by its row, and the rows of transactions and sweeps, but damaged. The
-program is the one that `./suites` runs (a checked build where nothing is proved), or the one that is named. Status 1
+Runs every file of examples/ as it is played by its row, and the rows of transactions and sweeps, but damaged. Status 1
 where an answer differs.
 
 cut:    the input without the lines that say nothing, cut at each byte: status 3 and just the fault that the rules of
@@ -15,8 +14,6 @@ cut:    the input without the lines that say nothing, cut at each byte: status 3
 """
 import collections
 import os
-import subprocess
-import sys
 import tempfile
 import time
 from concurrent.futures import ThreadPoolExecutor
@@ -40,22 +37,19 @@ def long_row() -> played.Row:
     return {"title": "a long script", "words": [b"table"], "input": script, "output": b"\n".join(lines) + b"\n"}
 
 
-def ran(
-    program: str, row: played.Row, given: bytes, environment: dict[str, str] | None = None
-) -> tuple[int, bytes, bytes]:
-    done = subprocess.run([program, *row["words"]], input=given, capture_output=True, env=environment)
-    return done.returncode, done.stdout, done.stderr
+def ran(program: str, row: played.Row, given: bytes, environment: dict[str, str] | None = None) -> played.Done:
+    return played.done([program, *row["words"]], given, env=environment)
 
 
-def steps_of(output: bytes) -> dict[tuple[str, ...], int]:
+def steps_of(output: str) -> dict[tuple[str, ...], int]:
     """How many steps each job of a run of `play` took, by its agent and number."""
-    words = [line.split() for line in output.decode().splitlines()]
+    words = [line.split() for line in output.splitlines()]
     return {tuple(word[0].split(".")): int(word[1]) for word in words if "." in word[0]}
 
 
-def count_played(lines: list[str], output: bytes) -> int:
+def count_played(lines: list[str], output: str) -> int:
     """How many lines of its output some lines of a script of `play` print."""
-    steps, begun, printed = steps_of(output), collections.Counter[str](), output.decode().splitlines()
+    steps, begun, printed = steps_of(output), collections.Counter[str](), output.splitlines()
     left: dict[str, float] = {}
     count = 0
     for words in (line.split() for line in lines):
@@ -72,93 +66,75 @@ def count_played(lines: list[str], output: bytes) -> int:
     return count
 
 
-def is_output(row: played.Row, given: bytes, output: bytes) -> bool:
+def is_output(row: played.Row, given: str, output: str) -> bool:
     """Whether an input without a fault, which is the front of a row's, may have this output."""
-    command, known, told = row["words"][0], row["output"].splitlines(True), output.splitlines(True)
-    lines = given.decode().splitlines()
+    whole = row["output"].decode()
+    command, known, told = row["words"][0], whole.splitlines(True), output.splitlines(True)
+    lines = given.splitlines()
     if command == b"acl":
         perms = lines[-1].split(":")[-1]
-        last = "other::" + "".join(mark if mark in perms else "-" for mark in "rwx") + "\n"
-        return told == [*known[:-1], last.encode()]
+        return told == [*known[:-1], f"other::{''.join(mark if mark in perms else '-' for mark in 'rwx')}\n"]
     if command == b"play":
-        return output == b"".join(known[: count_played(lines, row["output"])])
+        return told == known[: count_played(lines, whole)]
     jobs = [line for line in lines if line.split()[0] in ("do", "sweep")]
-    whole = len(jobs) - (not given.endswith(b"\n") and lines[-1:] == jobs[-1:])
-    right = told[:whole] == known[:whole] and [line.split()[0] for line in told[: len(jobs)]] == [
-        b"%d" % place for place in range(len(jobs))
-    ]
+    left = len(jobs) - (not given.endswith("\n") and lines[-1:] == jobs[-1:])
+    places = [line.split()[0] for line in told[: len(jobs)]]
+    right = told[:left] == known[:left] and places == [str(place) for place in range(len(jobs))]
     if command == b"table":
         return right and len(told) == len(jobs)
-    return right and told[len(jobs) :] == [
-        b"certified %d steps\n" % sum(int(line.split()[1]) for line in told[: len(jobs)])
-    ]
+    steps = sum(int(line.split()[1]) for line in told[: len(jobs)])
+    return right and told[len(jobs) :] == [f"certified {steps} steps\n"]
 
 
 def cut_at(program: str, row: played.Row, given: bytes, end: int) -> tuple[int, bool, int]:
     """What is wrong where the input ends there, and the status."""
-    status, output, errors = ran(program, row, given[:end])
-    fault = reading.fault([word.decode() for word in row["words"]], given[:end].decode())
-    if fault:
-        right = (status, output) == (3, f"fault {fault}\n".encode())
-    else:
-        right = status == 0 and is_output(row, given[:end], output)
-    return status, right and not errors, end
+    told, front = ran(program, row, given[:end]), given[:end].decode()
+    fault = reading.fault([word.decode() for word in row["words"]], front)
+    right = told[:2] == (3, f"fault {fault}\n") if fault else told.status == 0 and is_output(row, front, told.out)
+    return told.status, right and not told.err, end
 
 
-def cut(program: str, rows: list[played.Row]) -> list[str]:
-    wrong, statuses, begun = list[str](), collections.Counter[int](), time.monotonic()
+def cut(tally: played.Tally) -> None:
+    rows, statuses, begun = inputs(), collections.Counter[int](), time.monotonic()
     with ThreadPoolExecutor(len(os.sched_getaffinity(0))) as pool:
         for row in rows:
             given = played.said(row["input"])
-            for status, right, end in pool.map(
-                lambda end: cut_at(program, row, given, end), range(0, len(given) + 1, EVERY)
-            ):
+            ends = range(0, len(given) + 1, EVERY)
+            for status, right, end in pool.map(lambda end: cut_at(tally.program, row, given, end), ends):
                 statuses[status] += 1
-                if not right:
-                    wrong.append(f"{row['title']}: cut at {end}: status {status}")
+                tally.holds(right, row["title"], f"cut at {end}: status {status}")
     told = ", ".join(f"{count} times status {status}" for status, count in sorted(statuses.items()))
-    print(
-        f"cut: {len(rows)} inputs at each {'byte' if EVERY == 1 else f'{EVERY}th byte'}: {told};"
-        f" {time.monotonic() - begun:.1f} s"
-    )
-    return wrong
+    print(f"cut: {len(rows)} inputs at each {EVERY}th byte: {told}; {time.monotonic() - begun:.1f} s")
 
 
-def failing(program: str, row: played.Row, library: played.Library, name: str) -> tuple[int, list[str]]:
-    """How many calls of a stream there are, each of which failed once, and what is wrong."""
-    calls, wrong, before = 0, list[str](), -1
+def failing(tally: played.Tally, row: played.Row, library: played.Library, name: str) -> int:
+    """How many calls of a stream there are, each of which failed once."""
+    calls, before, whole = 0, -1, row["output"].decode()
     while True:
-        status, output, errors = ran(program, row, row["input"], library.env(**{name: calls + 1}))
+        told = ran(tally.program, row, row["input"], library.env(**{name: calls + 1}))
         if not library.was_met():
-            return calls, wrong
+            tally.holds(calls, row["title"], f"no call of {name}")
+            return calls
         calls += 1
-        is_longer = before < len(output) < len(row["output"]) and (calls > 1 or not output)
-        begins, before = row["output"].startswith(output) and is_longer, len(output)
-        if (status, errors) != (6, b"") or not (begins if name == "WRITE" else output == b""):
-            wrong.append(f"{row['title']}: {name} {calls}: status {status}")
+        is_longer = before < len(told.out) < len(whole) and (calls > 1 or not told.out)
+        begins, before = whole.startswith(told.out) and is_longer, len(told.out)
+        is_so = (told.status, told.err) == (6, "") and (begins if name == "WRITE" else told.out == "")
+        tally.holds(is_so, row["title"], f"{name} {calls}: status {told.status}")
 
 
-def failed(program: str, rows: list[played.Row]) -> list[str]:
-    wrong, calls = list[str](), collections.Counter[str]()
+def failed(tally: played.Tally) -> None:
+    rows, calls = [*inputs(), long_row()], collections.Counter[str]()
     with tempfile.TemporaryDirectory() as folder:
         library = played.Library("fail", folder)
-        if not library.is_made:
-            sys.exit("tests/fail.c is not compiled")
-        for row in rows:
+        for row in rows if library.is_made else ():
             for name in ("READ", "WRITE"):
-                count, found = failing(program, row, library, name)
-                wrong += found if count else [f"{row['title']}: no call of {name}"]
-                calls[name] += count
+                calls[name] += failing(tally, row, library, name)
     print(f"failed: {len(rows)} inputs: {calls['READ']} reads and {calls['WRITE']} writes, each in turn")
-    return wrong
 
 
-def main() -> int:
-    program, rows = played.named_program(__doc__), played.examples()
-    rows += [row for row in played.rows() if row["title"] == "Transactions and sweeps"]
-    wrong = failed(program, [*rows, long_row()]) + cut(program, rows)
-    return played.verdict(len(rows), "inputs", wrong, 20)
+def inputs() -> list[played.Row]:
+    return played.examples() + [row for row in played.rows() if row["title"] == "Transactions and sweeps"]
 
 
 if __name__ == "__main__":
-    sys.exit(main())
+    played.plays(__doc__, "inputs", failed, cut, program=None, most=20)

@@ -2,7 +2,7 @@
 """tests/damaged-scripts.py [--cases COUNT] [--from SEED] [PROGRAM]
 
 Damages scripts of tools/compare, and the same as scripts of `serve` and `table`, each in one known way in one
-line, and plays them by the program (out/suites, if none is named).
+line, and plays them by the program.
 
 Its command `forms` has to tell the same code. The fault has to stay where all is cut off behind the word that `forms`
 tells. Where it is that of a list's item, another item in its place has to have another fault, and none may have it
@@ -19,7 +19,6 @@ import contextlib
 import os
 import random
 import re
-import sys
 import tempfile
 import typing
 
@@ -314,8 +313,7 @@ def tried(program: str, path: str, damage: Damage) -> tuple[str, str]:
         return "nothing found", differing
     if not printed.startswith(f"fault line {damage.at + 1}:"):
         return "none", printed
-    with open(path, "w", encoding="latin1", newline="") as file:
-        file.writelines(f"{line}\n" for line in damage.lines)
+    played.put(path, "".join(f"{line}\n" for line in damage.lines).encode("latin1"))
     said = explain.answer(["--of", damage.command, printed, path])
     guessed = explain.answer([printed, path])
     another = re.sub(": .*", ": N2" if "N2" not in printed else ": N1", printed)
@@ -326,34 +324,30 @@ def tried(program: str, path: str, damage: Damage) -> tuple[str, str]:
     return ("unnamed" if unnamed(damage, said) else "named"), f"{printed}: {said}"
 
 
-def main() -> int:
-    given = played.words(__doc__, "program", cases=2000, from_=0, kind="", tell=False)
-    program = played.program(given.program)
-    counts: collections.Counter[tuple[str, str]] = collections.Counter()
-    with tempfile.TemporaryDirectory(prefix="suites-") as folder:
+def tries(tally: played.Tally) -> None:
+    """Tries all cases, and holds how many of each kind were named."""
+    given, counts = tally.given, collections.Counter[tuple[str, str]]()
+    with tempfile.NamedTemporaryFile(prefix="suites-") as file:
         for seed in range(given.from_, given.from_ + given.cases):
             dice = random.Random(seed)
             command = dice.choice(["play", "play", "serve", "table"])
             damage = Damage(dice, command, script_of(command, seed), given.kind)
             if not damage.fits:
                 continue
-            came, said = tried(program, os.path.join(folder, "script"), damage)
+            came, said = tried(tally.program, file.name, damage)
             counts[damage.kind, came] += 1
             if came == "nothing found" or (came == "unnamed" and (given.tell or damage.kind not in NAMED_AT_LEAST)):
                 print(f"seed {seed}, {damage.kind}, of {command}: {came}, wanted {damage.wanted}: {said}\n")
-    kinds, wrong = sorted({kind for kind, _ in counts}), 0
-    for kind in kinds:
-        named, of = counts[kind, "named"], sum(counts[kind, came] for came in CAME)
-        are_taken = of < (of + counts[kind, "none"]) * FAULTY_AT_LEAST.get(kind, 0.97)
+    for kind in sorted({kind for kind, _ in counts}):
+        named, of, none = counts[kind, "named"], sum(counts[kind, came] for came in CAME), counts[kind, "none"]
+        are_taken = of < (of + none) * FAULTY_AT_LEAST.get(kind, 0.97)
         is_wrong = counts[kind, "nothing found"] or named < of * NAMED_AT_LEAST.get(kind, 1) or not of or are_taken
-        wrong += bool(is_wrong)
-        told = f"{counts[kind, 'none']} had no fault in that line{'  WRONG' if is_wrong else ''}"
-        print(f"{kind}: {named} of {of} named; {told}")
+        told = f"{kind}: {named} of {of} named; {none} had no fault in that line"
+        print(told)
+        tally.holds(not is_wrong, told, "WRONG")
     named, of = (sum(counts[key] for key in counts if key[1] in some) for some in (CAME[:1], CAME))
     print(f"of {of} faulty lines {named} named")
-    print(f"{len(kinds)} kinds of damage, {wrong} differ")
-    return 1 if wrong or not kinds else 0
 
 
 if __name__ == "__main__":
-    sys.exit(main())
+    played.plays(__doc__, "kinds of damage", tries, program=None, cases=2000, from_=0, kind="", tell=False)

@@ -11,7 +11,6 @@ It needs Debian's package acl, and root on a file system with lists, here /dev/s
 import os
 import re
 import subprocess
-import sys
 import tempfile
 import typing
 
@@ -131,18 +130,18 @@ def told(found: typing.Any) -> str:
     return lines([f"$ {words}", *given, "> 0", *printed]).replace("\t", "\\t")
 
 
-def main() -> None:
-    given = played.words(__doc__, "program", rows=False)
-    if given.rows:
+def compares(tally: played.Tally) -> bool:
+    if tally.given.rows:
         print("".join(told(found) for found in measured()), end="")
-        return
+        return True
     kept = text_of("crates", "rows", "stdin")
-    rows = [found for found in measured() if not isinstance(found, str)]
-    absent = sum(told(row) not in kept for row in rows)
-    program = played.program(given.program)
-    differ = sum(built.asked(name, lines(asked), path=program) != (0, lines(told)) for name, asked, told in rows)
-    print(f"{len(rows)} rows measured, {differ} differ; {absent} do not stand in crates/rows/stdin")
-    sys.exit(1 if absent or differ else 0)
+    for row in measured():
+        if not isinstance(row, str):
+            tally.holds(told(row) in kept, "it does not stand in crates/rows/stdin", told(row))
+            name, asked, printed = row
+            tally.same(built.asked(name, lines(asked), path=tally.program), (0, lines(printed)), name, asked)
+    return False
 
 
-main()
+if __name__ == "__main__":
+    played.plays(__doc__, "rows measured and played", compares, program=None, rows=False)

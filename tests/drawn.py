@@ -2,13 +2,11 @@
 """tests/drawn.py [PROGRAM]
 
 Draws runs with ./suites draw, reads the pictures as XML, and looks whether all that is promised of them holds, as the
-functions here say. PROGRAM is `suites` (the checked build, if none is named): how many requests there are is what
-`play` tells. Status 1 where something differs.
+functions here say. PROGRAM tells by `play` how many requests there are. Status 1 where something differs.
 """
 import io
 import os
 import re
-import subprocess
 import sys
 import typing
 import xml.etree.ElementTree as etree
@@ -117,8 +115,8 @@ class Text:
 
 
 def run(script: str, *words: str) -> tuple[int, str, str]:
-    done = subprocess.run(tool("draw", *words), input=script.encode(), capture_output=True)
-    return done.returncode, done.stdout.decode(), done.stderr.decode()
+    done = played.done(tool("draw", *words), script.encode())
+    return done.status, done.out.encode("latin1").decode(), done.err
 
 
 def drawn(script: str, *words: str) -> Picture:
@@ -269,11 +267,11 @@ def stands(tally: Tally) -> None:
     tally.holds(all("file /a" not in words for _, words in later.said()), "a job that ended before is drawn")
 
 
-def about(tally: Tally, program: str) -> None:
+def about(tally: Tally) -> None:
     """--suite draws the jobs that asked for it, of which `play` tells how many requests they took."""
     asked = ("file /a 666", "file /b 666", "read /a", "write /b 00", "read /b", "read /a")
     lines = [begun(0, one) for one in asked]
-    counts = jobs(program, script_of(3, 1, "1,1,1/2/2", *lines))
+    counts = jobs(tally.program, script_of(3, 1, "1,1,1/2/2", *lines))
     picture = drawn(script_of(3, 1, "1,1,1/2/2", *lines), "--suite", "/b")
     wanted = [f"job {job} (t {64 * job}), user 1000: {asked[job]}" for job in (1, 3, 4)]
     tally.holds([words for _, words in picture.said()] == wanted, "--suite /b", picture.said())
@@ -284,11 +282,11 @@ def about(tally: Tally, program: str) -> None:
     tally.holds(is_so, "--suite /b draws others")
 
 
-def many(tally: Tally, program: str) -> None:
+def many(tally: Tally) -> None:
     """Above 2,000 requests nothing is drawn without --anyway, and it is said how many there are and how to choose."""
     reads = [begun(number % 2, "read /a") for number in range(250)]
     script = script_of(3, 2, "1,1,1/2/2", begun(0, "file /a 666"), *reads)
-    total = sum(jobs(program, script))
+    total = sum(jobs(tally.program, script))
     tally.holds(total > 2000, "the script has too few requests", total)
     status, text, said = run(script)
     words = [f"{total:,} requests", "2,000", "--agent A", "--suite S", "--from N --to M", "--anyway"]
@@ -354,17 +352,15 @@ def slow(tally: Tally) -> None:
     script, folder = SCRIPTS["five"].encode(), os.path.join(played.TOP, "tools")
     for name in ("trace", "draw"):
         words = [sys.executable, "-c", SLOW.format(name)]
-        done, said = played.on_terminal(words, input=script, cwd=folder)
-        is_so = done.returncode == 0 and " % of the script is played, 0 s" in said
-        tally.holds(is_so, name, "a terminal is told", said)
-        tally.holds(said.endswith("\r\033[K"), name, "what was said last stays", said[-60:])
-        silent = subprocess.run(words, input=script, capture_output=True, cwd=folder)
-        is_so = "%" not in silent.stderr.decode() and silent.stdout == done.stdout
-        tally.holds(is_so, name, "not on a terminal", silent.stderr)
+        shown = played.on_terminal(words, given=script, cwd=folder)
+        is_so = shown.status == 0 and " % of the script is played, 0 s" in shown.text
+        tally.holds(is_so, name, "a terminal is told", shown.text)
+        tally.holds(shown.text.endswith("\r\033[K"), name, "what was said last stays", shown.text[-60:])
+        silent = played.done(words, script, cwd=folder)
+        tally.holds("%" not in silent.err and silent.out == shown.printed, name, "not on a terminal", silent.err)
 
 
-def main() -> int:
-    program, tally = played.named_program(__doc__), Tally(most=20)
+def every_script(tally: Tally) -> None:
     cut = 0
     for name, script in scripts():
         lines, events = traced.lines_of(script), events_of(script.encode())
@@ -378,18 +374,10 @@ def main() -> int:
         tally.holds(is_so, name, "requests that are drawn")
         cut += sum(text.is_cut for text in picture.texts)
     tally.holds(cut > 0, "no label was cut")
-    unordered(tally)
-    own = run(played.stories()["revocation.script"])[1]
-    is_same = text_of("docs", "revocation.svg") == own
+    is_same = text_of("docs", "revocation.svg") == run(played.stories()["revocation.script"])[1]
     tally.holds(is_same, "the picture in docs/ is another one: ./suites draw makes it anew")
-    everybody(tally)
-    chosen(tally)
-    stands(tally)
-    about(tally, program)
-    many(tally, program)
-    slow(tally)
-    return tally.told("looked at")
 
 
 if __name__ == "__main__":
-    sys.exit(main())
+    played.plays(__doc__, "looked at", every_script, unordered, everybody, chosen, stands, about, many, slow,
+                 program=None, most=20)  # fmt: skip

@@ -10,9 +10,9 @@ import os
 import shutil
 import tempfile
 
-from played import TOP, Tally
+from played import TOP, Tally, plays, put
 
-from common import console, functions, text_of
+from common import functions, text_of
 from front import sources
 from wrong_bodies import changes
 
@@ -79,8 +79,7 @@ def sample(tally: Tally) -> None:
     tally.holds(named == FUNCTIONS, "functions", named)
     with tempfile.TemporaryDirectory(prefix="suites-") as room:
         os.mkdir(os.path.join(room, "src"))
-        with open(os.path.join(room, "src", "a.rt"), "w", encoding="utf-8") as file:
-            file.write(SOURCE)
+        put(os.path.join(room, "src", "a.rt"), SOURCE)
         for lines, number, line in GOOD:
             edit = "\n".join(["why: so", "file: src/a.rt", *lines, ""])
             wanted = SOURCE.split("\n")
@@ -100,16 +99,12 @@ def sample(tally: Tally) -> None:
         tally.holds(said == f"its 'old:' text stands where no comment may be: {NEXT}", "in a text", said)
 
 
-def main() -> int:
-    console.words(__doc__).parse_args()
-    tally = Tally()
-    sample(tally)
+def all_edits(tally: Tally) -> None:
     for path in sorted(glob.glob(os.path.join(TOP, "crates", "*", "wrong", "*.edit"))):
         text = text_of(path)
         if any(one.function for one in changes.changes_in(text)):
             tally.holds(is_taken(text, os.path.dirname(os.path.dirname(path))), os.path.relpath(path, TOP))
-    return tally.told("edits read")
 
 
 if __name__ == "__main__":
-    console.run(main, "stopped")
+    plays(__doc__, "edits read", sample, all_edits)

@@ -11,8 +11,6 @@ import os
 import pty
 import signal
 import subprocess
-import sys
-import tempfile
 import time
 import typing
 
@@ -65,52 +63,43 @@ MODULE = """printf 'BC\\300\\336\\0\\0\\0\\0\\003\\0\\0\\0suites::main' > "$TMPD
     sleep 5"""
 
 
-def write(path: str, text: str) -> None:
-    os.makedirs(os.path.dirname(path), exist_ok=True)
-    played.put(path, text)
-    os.chmod(path, 0o755)
-
-
-def asked(copy: wrapper.Copy, words: str, **how: typing.Any) -> subprocess.CompletedProcess[bytes]:
-    """What comes of a line of a shell at the top of the copy."""
-    return subprocess.run(["sh", "-c", words], cwd=copy.top, capture_output=True, input=SCRIPT, **how)
+def asked(copy: wrapper.Copy, line: str, **how: typing.Any) -> played.Done:
+    """What comes of a line of a shell, which reads the script."""
+    return copy.line(line, SCRIPT, **how)
 
 
 def holds(copy: wrapper.Copy, words: str, status: int, told: str, **how: typing.Any) -> None:
     """A line of a shell has this status, and standard error this sentence and no other but that of a checked build."""
     done = asked(copy, words, **how)
-    lines = [line for line in done.stderr.decode("latin1").splitlines() if not line.startswith("suites: checked build")]
-    is_so = done.returncode == status and any(told in line for line in lines) and "Traceback" not in "\n".join(lines)
-    copy.holds(is_so, f"{words}: {done.returncode}, and not {status} with {told!r}: {lines}")
+    lines = [line for line in done.err.splitlines() if not line.startswith("suites: checked build")]
+    is_so = done.status == status and any(told in line for line in lines) and "Traceback" not in done.err
+    copy.holds(is_so, f"{words}: {done.status}, and not {status} with {told!r}: {lines}")
+
+
+# What a signal ends, of this number, with which words, and the status and what is told behind the number.
+SIGNALS = (
+    ("suites", 9, "./suites table", 137, ": killed, as the system does where memory runs out"),
+    ("suites", 11, "./suites table", 139, ": a crash"),
+    ("trace", 9, "./suites trace", 137, " (SIGKILL): killed, as the system does where memory runs out"),
+    ("trace", 6, "./suites show", 134, " (SIGABRT)"), ("explore", 11, "./suites explore", 139, " (SIGSEGV): a crash"),
+    ("explore", 11, "./suites explore --page", 139, " (SIGSEGV): a crash"), ("judge", 9, "./suites judge", 137, ""),
+    ("forms", 9, "./suites explain 'fault line 1: S1' -", 1, ""), ("may", 11, "./suites may --groups 1 1 r /", 3, ""),
+)  # fmt: skip
 
 
 def by_signals(copy: wrapper.Copy) -> None:
     """A program that a signal ends is told, and the status is that of a shell."""
-    for name, number, why, words in (
-        ("suites", 9, "9: killed, as the system does where memory runs out", "./suites table"),
-        ("suites", 11, "11: a crash", "./suites table"),
-        ("trace", 9, "9 (SIGKILL): killed, as the system does where memory runs out", "./suites trace"),
-        ("trace", 6, "6 (SIGABRT)", "./suites show"),
-        ("explore", 11, "11 (SIGSEGV): a crash", "./suites explore"),
-    ):
+    for name, number, words, status, why in SIGNALS:
         copy.build(name, KILLED.format(number))
-        holds(copy, words, 128 + number, f"was ended by signal {why}")
+        holds(copy, words, status, f"was ended by signal {number}{why}")
     copy.build("session", DIES)
     for words in ("shell", "show --live", "dump", *mounts(copy)):
         holds(copy, f"./suites {words}", 1, "the program session was ended by signal 9 (SIGKILL): killed")
     done = asked(copy, "./suites session")
-    copy.holds(done.returncode == 137, f"a session that is killed: {done}")
-    copy.build("explore", KILLED.format(11))
-    holds(copy, "./suites explore --page", 139, "was ended by signal 11 (SIGSEGV): a crash")
-    copy.build("judge", KILLED.format(9))
-    holds(copy, "./suites judge", 137, "was ended by signal 9")
-    copy.build("forms", KILLED.format(9))
-    holds(copy, "./suites explain 'fault line 1: S1' -", 1, "signal 9")
-    copy.build("may", KILLED.format(11))
-    holds(copy, "./suites may --groups 1 1 r /", 3, "signal 11")
+    copy.holds(done.status == 137, f"a session that is killed: {done}")
     for status in (129, 137, 245):
         done = asked(copy, f"./suites explain 'status {status}'")
-        copy.holds(done.returncode == 0 and b"signal" in done.stdout, f"status {status} is not explained: {done}")
+        copy.holds(done.status == 0 and "signal" in done.out, f"status {status} is not explained: {done}")
 
 
 def mounts(copy: wrapper.Copy) -> list[str]:
@@ -139,27 +128,25 @@ def by_streams(copy: wrapper.Copy) -> None:
             holds(copy, f"./suites {words} <&-", 6, "a read failed: standard input is closed")
         for words in silent:
             done = asked(copy, f"./suites {words} 2>&-")
-            copy.holds((done.returncode, done.stderr) == (0, b""), f"{words} with a closed standard error: {done}")
+            copy.holds((done.status, done.err) == (0, ""), f"{words} with a closed standard error: {done}")
     done = asked(copy, "./suites may 0 r / <&- >&- 2>&-")
-    copy.holds((done.returncode, done.stdout) == (6, b""), f"all streams closed: {done}")
+    copy.holds(done[:2] == (6, ""), f"all streams closed: {done}")
 
 
 def by_memory(copy: wrapper.Copy) -> None:
     """No memory is told, and `explore` and `judge` may have what is free."""
-    code = "from common import console; console.run(lambda: len(bytearray(1 << 46)), 'stopped')"
-    done = subprocess.run([sys.executable, "-c", code], cwd=os.path.join(copy.top, "tools"), capture_output=True)
-    copy.holds((done.returncode, done.stderr) == (4, b"suites: out of memory\n"), f"no memory: {done}")
+    done = copy.python("from common import console; console.run(lambda: len(bytearray(1 << 46)), 'stopped')")
+    copy.holds((done.status, done.err) == (4, "suites: out of memory\n"), f"no memory: {done}")
     copy.build("session", ENDLESS)
     for words in ("shell", "dump", "show --live", *mounts(copy)):
         holds(copy, f"ulimit -v 150000; exec ./suites {words}", 4, "out of memory")
-    with open("/proc/meminfo", encoding="ascii") as file:
-        most = next(int(line.split()[1]) for line in file if line.startswith("MemTotal"))
+    most = os.sysconf("SC_PAGE_SIZE") * os.sysconf("SC_PHYS_PAGES") >> 10
     for name in ("explore", "judge"):
         copy.build(name, LIMITED)
-        found = asked(copy, f"./suites {name}").stdout.split()
-        copy.holds(found[:1] == [b"limit"] and found[1].isdigit() and int(found[1]) <= most, f"{name} may have {found}")
-        found = asked(copy, f"ulimit -v 3000000; ./suites {name}").stdout.split()
-        copy.holds(found == [b"limit", b"3000000"], f"{name} keeps no limit that is less: {found}")
+        found = asked(copy, f"./suites {name}").out.split()
+        copy.holds(found[:1] == ["limit"] and found[1].isdigit() and int(found[1]) <= most, f"{name} may have {found}")
+        found = asked(copy, f"ulimit -v 3000000; ./suites {name}").out.split()
+        copy.holds(found == ["limit", "3000000"], f"{name} keeps no limit that is less: {found}")
 
 
 def by_settings(copy: wrapper.Copy) -> None:
@@ -168,8 +155,7 @@ def by_settings(copy: wrapper.Copy) -> None:
         plain = asked(copy, f"./suites {words}")
         for setting in ({"PYTHONSAFEPATH": "1"}, {"PYTHONOPTIMIZE": "2"}):
             other = asked(copy, f"./suites {words}", env={**os.environ, **setting})
-            same = (plain.returncode, plain.stdout) == (other.returncode, other.stdout)
-            copy.holds(same and plain.stdout, f"{words} with {setting}: {other}")
+            copy.holds(plain[:2] == other[:2] and plain.out, f"{words} with {setting}: {other}")
 
 
 def until(is_so: typing.Callable[[], object]) -> bool:
@@ -211,56 +197,44 @@ def by_stops(copy: wrapper.Copy) -> None:
     for on_terminal in (False, True):
         for number in (signal.SIGTERM, signal.SIGINT):
             leader, end = pty.openpty()
-            given = os.open(os.path.join(copy.top, "two"), os.O_RDONLY | os.O_CREAT)
-            process, child = started(copy, "play", kept, stdin=given, stderr=end if on_terminal else subprocess.DEVNULL)
-            process.send_signal(number)
-            status, is_stopped = process.wait(120), until(lambda: not played.is_alive(child))
+            with open(os.path.join(copy.top, "two"), "ab+") as given:
+                told = end if on_terminal else subprocess.DEVNULL
+                process, child = started(copy, "play", kept, stdin=given, stderr=told)
+                process.send_signal(number)
+                status, is_stopped = process.wait(120), until(lambda: not played.is_alive(child))
             about = f"{number.name} {'on a terminal' if on_terminal else ''}"
             copy.holds(is_stopped and status == 128 + number, f"{about}: {status}, stopped: {is_stopped}")
-            os.close(given)
+            os.close(leader)
             os.close(end)
-            played.shown_on(leader)
-
-
-def kept(copy: wrapper.Copy) -> list[str]:
-    out = os.path.join(copy.top, "out")
-    return [name for name in os.listdir(out) if name in ("trial.json", "checked.json")] if os.path.isdir(out) else []
 
 
 def by_builds(copy: wrapper.Copy) -> None:
     """Of a build only that is kept that the kit lacks; a step that is killed or fails is tried again."""
-    kit, before = os.path.join(os.path.dirname(copy.top), "kit"), os.environ["PATH"]
+    out, kit, before = (os.path.join(copy.top, name) for name in ("out", "../kit", "../kit/path:" + os.environ["PATH"]))
     for name in ("START-HERE.md", "c/libos_c.a", "c/liblibc_c.a", "bin/rattle-link"):
-        write(os.path.join(kit, name), "")
-    env = {**os.environ, "PATH": f"{kit}/path:{before}"}
-    clang = os.path.join(kit, "toolchain", "bin", "clang")
-    write(os.path.join(kit, "path", "rt"), KIT.format(kit, MODULE, sources.KIT_LOGIC))
-    for name in ("trial.json", "checked.json", "choice.sh"):
-        with contextlib.suppress(FileNotFoundError):
-            os.unlink(os.path.join(copy.top, "out", name))
-    for text, told in ((KILLED.format(9), "signal 9"), ("#!/bin/sh\necho no room; exit 1\n", "status 1")):
-        write(clang, text)
+        wrapper.write(os.path.join(kit, name), "")
+    env, clang = {**os.environ, "PATH": before}, os.path.join(kit, "toolchain", "bin", "clang")
+
+    def kept() -> list[str]:
+        return [name for name in os.listdir(out) if name in ("trial.json", "checked.json")]
+
+    for name in (*kept(), "choice.sh"):
+        os.unlink(os.path.join(out, name))
+    room = "#!/bin/sh\necho no room; exit 1\n"
+    for made, text, told in ((MODULE, KILLED.format(9), "signal 9"), (MODULE, room, "status 1"),
+                             ("kill -9 $$", room, "signal 9")):  # fmt: skip
+        wrapper.write(os.path.join(kit, "path", "rt"), KIT.format(kit, made, sources.KIT_LOGIC))
+        wrapper.write(clang, text)
         holds(copy, "python3 tools choose", 1, told, env=env)
-        copy.holds(kept(copy) == [], f"{told} is kept: {kept(copy)}")
-    write(os.path.join(kit, "path", "rt"), KIT.format(kit, "kill -9 $$", sources.KIT_LOGIC))
-    holds(copy, "python3 tools choose", 1, "signal 9", env=env)
-    copy.holds(kept(copy) == [], "a killed rt is kept")
-    write(os.path.join(kit, "path", "rt"), KIT.format(kit, MODULE, sources.KIT_LOGIC))
+        copy.holds(kept() == [], f"{told} is kept: {kept()}")
+    wrapper.write(os.path.join(kit, "path", "rt"), KIT.format(kit, MODULE, sources.KIT_LOGIC))
     os.unlink(clang)
     done = asked(copy, "python3 tools choose", env=env)
-    is_kept = done.stdout == b"trial tools/front/trial.sh\n" and kept(copy) == ["trial.json"]
+    is_kept = done.out == "trial tools/front/trial.sh\n" and kept() == ["trial.json"]
     copy.holds(is_kept, f"a kit without clang: {done}")
 
 
-def main() -> int:
-    with tempfile.TemporaryDirectory(prefix="suites-") as room:
-        copy = wrapper.Copy(room)
-        for part in (
-            by_signals, by_streams, by_memory, by_settings, by_stops, by_stops_of_sessions, by_builds,
-        ):
-            part(copy)
-    return copy.told("ends")
-
-
 if __name__ == "__main__":
-    sys.exit(main())
+    played.plays(__doc__, "ends", wrapper.on_a_copy(
+        by_signals, by_streams, by_memory, by_settings, by_stops, by_stops_of_sessions, by_builds,
+    ))  # fmt: skip

@@ -10,8 +10,6 @@ that begin have to be those of the trace, and so have the paths. Status 1 where 
 import json
 import os
 import re
-import subprocess
-import sys
 from collections.abc import Iterator
 from typing import Any
 
@@ -82,14 +80,6 @@ def scripts() -> Iterator[tuple[str, str]]:
     yield from drawn.SCRIPTS.items()
     for seed in range(30):
         yield f"seed {seed}", scenario.Scenario(seed, 200).script()
-
-
-def replayed(events: list[dict]) -> states.Retold:
-    """What servers and agents have at the end, by what is told of them in each event."""
-    run = states.Retold(events[0])
-    for event in events[1:-1]:
-        run.hear(event)
-    return run
 
 
 def letters(one: dict) -> dict[int, str]:
@@ -226,14 +216,14 @@ def typed(tally: Tally) -> None:
     script = next(iter(played.stories().values())).encode()
     words, fuller = [os.path.join(played.TOP, "suites"), "trace", "--json"], json_events.Fuller()
     for given, status in ((script, 0), (script + b"none\n", 3)):
-        done = subprocess.run(words, input=given, capture_output=True, check=False)
         lines = [line.encode() + b"\n" for line in show.events_of(script)] if status == 0 else []
-        wanted = b"".join(map(fuller.of, lines)) or f"fault line {script.count(10) + 1}: S1\n".encode()
-        tally.holds((done.returncode, done.stdout) == (status, wanted), "the command", done.returncode, done.stdout)
+        wanted = b"".join(map(fuller.of, lines)).decode() or f"fault line {script.count(10) + 1}: S1\n"
+        tally.same(played.done(words, given)[:2], (status, wanted), "the command")
+    for more in (["--json", "x"], ["--json", ""], ["x", "--json"]):
+        tally.same(built.asked("trace", "", *more), (2, "fault command line\n"), "words", more)
 
 
-def main() -> int:
-    tally = Tally(most=20, width=600)
+def every_script(tally: Tally) -> None:
     schema = Schema(json.loads(text_of("docs", "events.schema.json")))
     for name, script in scripts():
         bare_lines, fuller = show.events_of(script.encode()), json_events.Fuller()
@@ -243,7 +233,9 @@ def main() -> int:
             said = schema.refused(event, schema.whole)
             tally.holds(said is None, name, "event", event.get("event"), said)
         tally.holds([event["event"] for event in events] == [*range(len(events))], name, "numbers of events")
-        run = replayed(events)
+        run = states.Retold(events[0])
+        for event in events[1:-1]:
+            run.hear(event)
         tally.holds(run.standing() == events[-1]["servers"], name, "what changed is not what there is at the end")
         tally.holds(run.agents() == events[-1]["agents"], name, "agents by their changes")
         for event, is_so in talks(events):
@@ -252,12 +244,7 @@ def main() -> int:
         in_full(tally, name, events, lines)
         for own, told in zip([*lines_of(events), None], [*lines_in(lines), None]):
             tally.holds(own == told, name, "told otherwise", own, told)
-    for words in (["--json", "x"], ["--json", ""], ["x", "--json"]):
-        answer = built.asked("trace", "", *words)
-        tally.holds(answer == (2, "fault command line\n"), "words", words, answer)
-    typed(tally)
-    return tally.told("looked at")
 
 
 if __name__ == "__main__":
-    sys.exit(main())
+    played.plays(__doc__, "looked at", every_script, typed, most=20, width=600)

@@ -12,8 +12,6 @@ be shown escaped. With --told each kind is printed. Prints what differs; status 
 import glob
 import os
 import re
-import subprocess
-import sys
 import tempfile
 import typing
 
@@ -85,9 +83,8 @@ def kind(text: str) -> str:
 def printed(*words: str, script: str = "", behind: str = "", says: bool = False) -> typing.Iterator[str]:
     """What `./suites` prints of a script with more lines behind it; and what it says on standard error."""
     text = played.got(script or os.devnull) + behind.encode()
-    done = subprocess.run(["./suites", *words], cwd=played.TOP, input=text, capture_output=True, check=False)
-    told = done.stdout + (done.stderr if says else b"")
-    yield from (line for line in told.decode("latin1").splitlines() if line.strip())
+    done = played.done(["./suites", *words], text, cwd=played.TOP)
+    yield from (line for line in (done.out + done.err * says).splitlines() if line.strip())
 
 
 def stories(folder: str, ending: str = "script") -> list[str]:
@@ -196,36 +193,26 @@ def unknown_words() -> typing.Iterator[str]:
 
 def obeyed(tally: played.Tally) -> None:
     """A script with bytes that a terminal would obey: none comes out of the tools that show it."""
-    path = os.path.join(played.TOP, "out", "obeyed.script")
-    os.makedirs(os.path.dirname(path), exist_ok=True)
-    played.put(path, OBEYED.encode("latin1"))
-    try:
+    with tempfile.NamedTemporaryFile(suffix=".script") as file:
+        path = played.put(file.name, OBEYED)
         for words in (["explain", "0.0 1 refused F1 op 1", path], ["draw"], ["show"]):
             text = "\n".join(printed(*words, script="" if words[0] == "explain" else path))
             tally.holds(text and not {"\x1b", "\x07"} & set(text), f"{words[0]} shows what a terminal obeys")
         tally.holds("\\x1b" in quoted.safe("\x1b[31m") and quoted.safe("a\tb\n") == "a\tb\n", "quoted.safe")
-    finally:
-        os.remove(path)
 
 
-def main() -> int:
-    is_told = played.words(__doc__, told=False).told
+def all_kinds(tally: played.Tally) -> None:
     kinds: dict[tuple[str, bool], Line] = {}
-    for line in lines():
-        if line.text.strip():
-            kinds.setdefault((kind(line.text), bool(line.script)), line)
-    tally = played.Tally(width=500)
+    for line in filter(lambda line: line.text.strip(), lines()):
+        kinds.setdefault((kind(line.text), bool(line.script)), line)
     tally.holds(len(kinds) >= FEWEST, f"only {len(kinds)} kinds of lines were found")
     for (name, _), line in sorted(kinds.items()):
         why = wrong_with(line)
         tally.holds(not why, f"of the line of {line.of}, {line.text}", why)
-        if is_told:
+        if tally.given.told:
             print(f"{line.of}: {name}")
-    for text in unknown_words():
-        tally.holds(False, text)
-    obeyed(tally)
-    return tally.told("kinds of lines and words")
+    tally.fails(*unknown_words())
 
 
 if __name__ == "__main__":
-    sys.exit(main())
+    played.plays(__doc__, "kinds of lines and words", all_kinds, obeyed, told=False, width=500)

@@ -13,8 +13,6 @@ import functools
 import glob
 import os
 import re
-import subprocess
-import sys
 import tempfile
 import typing
 
@@ -127,14 +125,14 @@ def untold(command: str, path: str, fault: str, told: str) -> str | None:
     return None if NOT_FOUND in as_one(explain.answer([other, path])) else f"{other} is found too"
 
 
-def play_examples(program: str, tally: Tally) -> None:
+def play_examples(tally: Tally) -> None:
     """Plays the examples."""
     about: dict[str, bool] = {}
     with tempfile.TemporaryDirectory(prefix="suites-") as folder:
         path = os.path.join(folder, "given")
         for code, words, lines, wanted, told in examples():
             text = "".join(line + "\n" for line in lines)
-            last, why = built.asked(words[0], text, *words[1:], path=program)[1].splitlines()[-1:], None
+            last, why = built.asked(words[0], text, *words[1:], path=tally.program)[1].splitlines()[-1:], None
             if last != [wanted]:
                 why = f"{words} prints {last}"
             elif re.match(r"fault (line|[A-Z])", wanted):
@@ -147,27 +145,24 @@ def play_examples(program: str, tally: Tally) -> None:
         tally.fails(not about[code] and f"explain says nothing of {code} where it is printed")
 
 
-def on_terminal(command: str, path: str, folder: str) -> str:
-    """What a terminal is told of a file that is read."""
-    with open(path, "rb") as file:
-        return played.on_terminal([os.path.join(TOP, "suites"), command], stdin=file, cwd=folder)[1]
-
-
 def told_on_terminal() -> typing.Iterator[str]:
     """What differs where a fault is found on a terminal: the command that `./suites` names has to show it; of a script
     of `explore` it has to be told so.
     """
+
+    def on_terminal(command: str, path: str, folder: str) -> str:
+        with open(path, "rb") as file:
+            return played.on_terminal([os.path.join(TOP, "suites"), command], stdin=file, cwd=folder).text
+
     for command in ("play", "trace", "draw", "show"):
         said = on_terminal(command, os.path.join(TOP, EXPLORED), TOP)
         if f"explore --way 1 < {EXPLORED}" not in said.replace("'", ""):
             yield f"{command} says of {EXPLORED}: {said}"
     with tempfile.TemporaryDirectory(prefix="suites-") as folder:
         for name, command, text, told in ON_TERMINAL:
-            played.put(os.path.join(folder, name), text)
-            said = on_terminal(command, os.path.join(folder, name), folder)
+            said = on_terminal(command, played.put(os.path.join(folder, name), text), folder)
             found = re.search(r"\./suites (explain 'fault .*) shows it", said)
-            how: dict[str, typing.Any] = {"shell": True, "cwd": folder, "stdout": subprocess.PIPE, "text": True}
-            shown = found and subprocess.run(f"{TOP}/suites {found[1]}", **how).stdout
+            shown = found and played.done(["sh", "-c", f"{TOP}/suites {found[1]}"], cwd=folder).out
             if not shown or told not in shown:
                 yield f"on a terminal {command} < '{name}' says {said.strip()}, which shows {shown}"
 
@@ -188,19 +183,19 @@ def denies(text: str, owner: str, group: str, uid: str, groups: list[str], wante
     return "mask::" if of_group else "other::"
 
 
-def random_runs(program: str) -> typing.Iterator[tuple[str, str, str, play_lines.Played]]:
+def random_runs(tally: Tally) -> typing.Iterator[tuple[str, str, str, play_lines.Played]]:
     """Random scripts: what they are called, the script, what `play` prints, and the run."""
     for seed in range(SEEDS):
         script = scenario.Scenario(seed, 80).script()
-        printed = built.asked("play", script, path=program)[1]
+        printed = built.asked("play", script, path=tally.program)[1]
         yield f"seed {seed}", script, printed, play_lines.played(script.encode("latin1"), "the script")
 
 
-def told_of_runs(program: str, tally: Tally) -> None:
+def told_of_runs(tally: Tally) -> None:
     """What is told of lines of random scripts: each line has to be told, and a list that is told of a denial has to
     deny it.
     """
-    for seed, script, printed, run in random_runs(program):
+    for seed, script, printed, run in random_runs(tally):
         for line in dict.fromkeys(printed.splitlines()):
             said = " ".join(play_lines.of_run(run, line, script, "the script"))
             found = re.search(
@@ -229,9 +224,9 @@ def told_of_lines(tally: Tally) -> None:
             tally.holds(not missing, f"{name}: of {line} explain does not say {missing}: {said[:600]}")
 
 
-def silent_lines(program: str, tally: Tally) -> None:
+def silent_lines(tally: Tally) -> None:
     """What differs between the lines that remarks.py says did nothing and those that the trace says did nothing."""
-    for seed, script, printed, run in random_runs(program):
+    for seed, script, printed, run in random_runs(tally):
         said = list(remarks.silent(remarks.lines_of(script), printed))
         found = {int(number) for number in re.findall(r"line (\d+) did nothing", "\n".join(said))}
         left = {
@@ -252,9 +247,8 @@ def play_commands(tally: Tally) -> None:
         # what a script is to be read for, and has none, is help
         if "<" not in line and re.fullmatch(r"\./suites (trace|draw|show|votes|play|table|acl)", line):
             line = f"{line} --help"
-        done = subprocess.run(line, shell=True, cwd=TOP, stdin=subprocess.DEVNULL, capture_output=True, text=True)
-        is_well = done.returncode == 0 and done.stdout
-        tally.holds(is_well, f"{command} ends with {done.returncode}: {(done.stdout + done.stderr).strip()[:200]}")
+        done = played.done(["sh", "-c", line], cwd=TOP)
+        tally.holds(done.status == 0 and done.out, f"{command} ends so: {str(done)[:200]}")
 
 
 def untold_words() -> typing.Iterator[str]:
@@ -329,18 +323,12 @@ def false_limits() -> typing.Iterator[str]:
             yield f"{known} stands for {number}, the {name} of {path}"
 
 
-def main() -> int:
-    program, tally = played.named_program(__doc__), Tally()
-    play_examples(program, tally)
-    play_commands(tally)
-    told_of_runs(program, tally)
-    told_of_lines(tally)
-    silent_lines(program, tally)
+def of_sources(tally: Tally) -> None:
     for wrong in (told_on_terminal(), untold_words(), unexplained(), untold_reasons(), false_limits()):
         tally.fails(*wrong)
     tally.count += len(LIMITS)
-    return tally.told("examples, lines, command lines and limits")
 
 
 if __name__ == "__main__":
-    sys.exit(main())
+    played.plays(__doc__, "examples, lines, command lines and limits", play_examples, play_commands, told_of_runs,
+                 told_of_lines, silent_lines, of_sources, program=None)  # fmt: skip

@@ -6,7 +6,7 @@ it. Each line and each operation of the table is written with a word in each of 
 fault S1 with a word too few, with a word too many and with another first word. Each number has no fault at its limits,
 and beyond them the fault that the table tells. Prints what differs; status 1 where something does.
 """
-import sys
+import itertools
 import typing
 
 import played
@@ -66,30 +66,18 @@ def cases_of(command: str) -> typing.Iterator[Case]:
             yield Case(command, [*header, f"{begins}read /b ; {text}"], len(header) + 1, code)
 
 
-def tells(program: str, case: Case) -> str:
-    """The first fault that the program tells, if it tells one."""
-    words = ["serve", "--agents", "2"] if case.command == "serve" else [case.command]
-    status, told = built.asked(words[0], "".join(f"{line}\n" for line in case.lines), *words[1:], path=program)
-    return told.strip() if status == 3 else f"status {status}" if status else ""
-
-
-def differing(program: str, case: Case) -> str:
-    """What the program tells otherwise of a case; "" where it tells the same."""
-    wanted = f"fault line {case.number}: {case.code}" if case.code else ""
-    told = tells(program, case)
-    if told == wanted:
-        return ""
-    return f"{case.command}: {case.lines[case.number - 1]!r}: {told or 'no fault'}, wanted {wanted or 'none'}"
-
-
-def main() -> int:
-    program = played.named_program(__doc__)
-    cases = [case for command in forms.COMMANDS for case in cases_of(command)]
-    printed = built.asked("forms", "", path=program)[1]
-    other = "" if printed == text_of("crates", "forms", "table.txt") else "crates/forms/table.txt is another table"
-    wrong = [other, *(differing(program, case) for case in cases)]
-    return played.verdict(len(wrong), "lines", [*filter(None, wrong)])
+def differing(tally: played.Tally) -> None:
+    """Holds what the program tells against all cases, and the table that it prints."""
+    told = built.asked("forms", "", path=tally.program)[1]
+    tally.holds(told == text_of("crates", "forms", "table.txt"), "crates/forms/table.txt is another table")
+    for case in itertools.chain.from_iterable(map(cases_of, forms.COMMANDS)):
+        words = ["serve", "--agents", "2"] if case.command == "serve" else [case.command]
+        given = "".join(f"{line}\n" for line in case.lines)
+        status, told = built.asked(words[0], given, *words[1:], path=tally.program)
+        told = told if status == 3 else f"status {status}" if status else ""
+        wanted = f"fault line {case.number}: {case.code}\n" if case.code else ""
+        tally.same(told, wanted, case.command, repr(case.lines[case.number - 1]))
 
 
 if __name__ == "__main__":
-    sys.exit(main())
+    played.plays(__doc__, "lines", differing, program=None)

@@ -14,7 +14,7 @@ import subprocess
 import sys
 import tempfile
 
-from played import TOP, verdict
+from played import TOP, Tally, plays
 
 WIDEST, FEWEST = 120, 90
 FOLDERS = ("tools", "tools/*", "tests", "bench")
@@ -68,16 +68,18 @@ def checked(files: list[str], room: str) -> list[str]:
     return found or ([] if done.returncode == 0 else done.stdout.splitlines())
 
 
-def main() -> int:
+def looks(tally: Tally) -> bool:
     files = paths()
-    wrong = [line for path in files for line in too_wide(path)]
-    if shutil.which("mypy"):
+    tally.count = len(files)
+    tally.fails(*(line for path in files for line in too_wide(path)))
+    has_mypy = shutil.which("mypy") is not None
+    if has_mypy:
         with tempfile.TemporaryDirectory(prefix="suites-") as room:
-            wrong += [line for group in groups(files) for line in checked(group, room)]
+            tally.fails(*(line for group in groups(files) for line in checked(group, room)))
     else:
         print("type hints skipped: no mypy")
-    return verdict(len(files), "files", wrong)
+    return False
 
 
 if __name__ == "__main__":
-    sys.exit(main())
+    plays(__doc__, "files", looks)

@@ -5,7 +5,7 @@ Looks whether a command became slower. Counts with valgrind the instructions tha
 built without proof (`bench/unproved.py`, in two minutes) or as PROGRAM; a count is the same whatever else the machine
 does.
 One that is above the count of docs/instructions.csv by more than a hundredth is an error, and one that is as much below
-it is told. With --write the file is written anew. Without valgrind it prints "skipped: .." and ends with 0.
+it is told. With --write the file is written anew.
 """
 import csv
 import os
@@ -17,7 +17,6 @@ import counting
 import played
 
 sys.path.append(os.path.join(os.path.dirname(os.path.abspath(__file__)), "..", "bench"))
-from common import console
 import inputs
 import left
 import unproved
@@ -58,49 +57,28 @@ INPUTS: tuple[tuple[str, str, typing.Callable[[], bytes]], ...] = (
 )
 
 
-def known() -> dict[str, int]:
-    """The counts that are kept."""
-    if not os.path.exists(COUNTS):
-        return {}
-    with open(COUNTS, encoding="utf-8", newline="") as file:
-        return {row["input"]: int(row["instructions"]) for row in csv.DictReader(file)}
-
-
-def write(counts: dict[str, int]) -> None:
-    with open(COUNTS, "w", encoding="utf-8", newline="") as file:
-        rows = csv.writer(file, lineterminator="\n")
-        rows.writerow(["input", "command", "instructions"])
-        rows.writerows([name, command, counts[name]] for name, command, _ in INPUTS)
-
-
-def faults(counts: dict[str, int], wanted: dict[str, int]) -> list[str]:
-    """The inputs that take more than they are to; those that take less, or have no count, are told."""
-    found = []
-    for name, count in counts.items():
-        most = wanted.get(name)
-        if most is None:
-            found.append(f"{name}: {count}, and it has no count that is kept")
-        elif count > most * (1 + MORE):
-            found.append(f"{name}: {count}, where {most} are kept: {count / most - 1:+.1%}")
-        elif count < most * (1 - MORE):
-            print(f"{name}: {count}, where {most} are kept: {count / most - 1:+.1%}; --write keeps it")
-    return found + [f"{name}: it is kept, and there is no such input" for name in wanted if name not in counts]
-
-
-def main() -> int:
-    given = played.words(__doc__, "program", write=False)
-    if counting.skipped():
-        return 0
+def compares(tally: played.Tally) -> bool | None:
+    """Counts, and holds the counts against those that are kept, or keeps them."""
     with tempfile.TemporaryDirectory() as folder:
-        program = given.program or os.path.join(folder, "suites")
-        if not given.program:
+        program = tally.given.program or os.path.join(folder, "suites")
+        if not tally.given.program:
             unproved.build(program)
         counts = {name: counting.instructions([program, command], data()) for name, command, data in INPUTS}
-    if given.write:
-        write(counts)
-        return 0
-    return played.verdict(len(counts), "inputs", faults(counts, known()))
+    if tally.given.write:
+        rows = "".join(f"{name},{command},{counts[name]}\n" for name, command, _ in INPUTS)
+        played.put(COUNTS, f"input,command,instructions\n{rows}")
+        return True
+    with open(COUNTS, encoding="utf-8", newline="") as file:
+        kept = {row["input"]: int(row["instructions"]) for row in csv.DictReader(file)}
+    for name, count in counts.items():
+        most = kept.pop(name, 0)
+        about = f"{name}: {count}, where {most} are kept: {count / max(1, most) - 1:+.1%}"
+        tally.holds(count <= most * (1 + MORE), about)
+        if count < most * (1 - MORE):
+            print(f"{about}; --write keeps it")
+    tally.fails(*(f"{name}: it is kept, and there is no such input" for name in kept))
+    return None
 
 
 if __name__ == "__main__":
-    console.run(main, "stopped")
+    played.plays(__doc__, "inputs", counting.is_skipped, compares, program=None, write=False)

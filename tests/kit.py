@@ -13,9 +13,9 @@ import shutil
 import sys
 import tempfile
 
-from played import TOP, Tally
+from played import TOP, Tally, plays
 
-from common import console, crates
+from common import crates
 from gate import rt
 
 # By itself rt takes 8 ms for each way that leads down from a crate.
@@ -75,16 +75,13 @@ def tower(tally: Tally) -> None:
     tally.holds(crates_of[-1].stamp().count("changed") == 1 << 9, "a change is seen")
 
 
-def main() -> int:
-    console.words(__doc__).parse_args()
-    tally = Tally()
+def looks(tally: Tally) -> None:
     tower(tally)
     path = os.path.realpath(shutil.which("rt") or "")
     if os.path.isfile(path) and rt.is_python(path):
         with tempfile.TemporaryDirectory() as sys.pycache_prefix:
             look(tally, path)
-    return tally.told("looks at crates")
 
 
 if __name__ == "__main__":
-    console.run(main, "stopped")
+    plays(__doc__, "looks at crates", looks)

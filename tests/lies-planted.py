@@ -1,9 +1,9 @@
 #!/usr/bin/env python3
-"""tests/lies-planted.py [CASES [SEED]]
+"""tests/lies-planted.py [--cases N] [--seed SEED]
 
 Whether tests/lies.py can fail: plants errors into the verdicts that it reads (each as a `certify` would give them that
 lets something through, or refuses or tells too much) and into its judge (a line of tests/judging.py in place of
-another), one after another, and has it judge the same cases each time (1,000, or CASES), all of them with the programs
+another), one after another, and has it judge the same cases each time (1,000, or N), all of them with the programs
 as they are first. Tells each planted error with the cases that are told as differing. Status 1 where one is not found
 out, or where cases differ with nothing planted.
 """
@@ -190,47 +190,36 @@ def judge_with(pairs: Pairs) -> types.ModuleType:
     return module
 
 
-def judged(runs: list[Run], tell: Tell | None = None, pairs: Pairs = ()) -> tuple[int, int, list[str]]:
-    """How many cases there are, how many of them tests/lies.py tells as differing, and the first line that says so."""
-    tally, said = lies.Tally(), io.StringIO()
+def judged(runs: list[Run], tell: Tell | None = None, pairs: Pairs = ()) -> tuple[int, str]:
+    """How many cases tests/lies.py tells as differing, and the first line that says so."""
+    tally, said = played.Tally(), io.StringIO()
     lies.judging = judge_with(pairs)
     with contextlib.redirect_stdout(said):
         for run, row in zip(runs, lies.scripts()):
             lies.told = lambda *_, run=run: run.told(tell)
             try:
-                lies.judge_script("", tally, len(run.cases), 0, row)
+                lies.judge_script("", lies.Came(tally), len(run.cases), 0, row)
             except lies.judging.Mismatch as why:
                 # the judge does not take the run as it is for one: tests/lies.py ends so
-                tally.differ += 1
-                print(f"{row[0]}: of the run as it is the judge says: {why}")
-    lines = [line for line in said.getvalue().splitlines() if ": case " in line or ": of the run as it is" in line]
-    return sum(tally.all.values()), tally.differ, lines[:1]
+                tally.holds(False, f"{row[0]}: of the run as it is the judge says: {why}")
+    lines = (line for line in said.getvalue().splitlines() if ": case " in line or ": of the run as it is" in line)
+    return tally.wrong, next(lines, "")[:110]
 
 
-def main() -> int:
-    cases, seed = scratch.cases_and_seed(__doc__, 1000, SEED)
-    liar, rows = scratch.built("liar", lies.CRATES, lies.MODULES), lies.scripts()
+def plants(tally: played.Tally) -> None:
+    liar, rows, given = scratch.built("liar", lies.CRATES, lies.MODULES), lies.scripts(), tally.given
     judging.traced = functools.cache(judging.traced.__wrapped__)
     runs = [
-        Run(lies.told(liar, agents, seed * len(rows) + place, cases // len(rows), (script, given)))
-        for place, (_, agents, given, script) in enumerate(rows)
+        Run(lies.told(liar, agents, given.seed * len(rows) + place, given.cases // len(rows), (script, deeds)))
+        for place, (_, agents, deeds, script) in enumerate(rows)
     ]
-    count, differ, _ = judged(runs)
-    print(f"{count} cases with nothing planted: {differ} differ", flush=True)
-    missed = 0
-    plants: list[tuple[str, Tell | None, Pairs]] = [(name, tell, ()) for name, tell in TOLD.items()]
-    plants += [(name, None, pairs) for name, pairs in JUDGED.items()]
-    for name, tell, pairs in plants:
-        _, found, lines = judged(runs, tell, pairs)
-        missed += not found
-        print(
-            f"  {name}: {found} told" if found else f"  {name}: NOT FOUND OUT",
-            *(f" ({line[:110]})" for line in lines),
-            flush=True,
-        )
-    print(f"{len(TOLD) + len(JUDGED)} planted, {missed} not found out")
-    return 1 if differ or missed else 0
+    tally.same(judged(runs), (0, ""), "with nothing planted")
+    planted: dict[str, tuple[Tell | None, Pairs]] = {name: (tell, ()) for name, tell in TOLD.items()}
+    for name, how in {**planted, **{name: (None, pairs) for name, pairs in JUDGED.items()}}.items():
+        found, line = judged(runs, *how)
+        print(f"  {name}: {found} told ({line})", flush=True)
+        tally.holds(found, name, "NOT FOUND OUT")
 
 
 if __name__ == "__main__":
-    sys.exit(main())
+    played.plays(__doc__, "planted", plants, cases=1000, seed=SEED)

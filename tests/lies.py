@@ -1,8 +1,8 @@
 #!/usr/bin/env python3
-"""tests/lies.py [CASES [SEED]]
+"""tests/lies.py [--cases N] [--seed SEED]
 
 Has jobs carried out by agents in threads, as `serve` does, with servers that crash and caches that are forgotten on the
-way, and tells lies about what servers served and what agents did: a hundred thousand seeded cases (CASES another
+way, and tells lies about what servers served and what agents did: a hundred thousand seeded cases (N another
 number) over several scripts, each with one lie or two, of 27 kinds. A lie may leave a run that could have been, so its
 kind is no verdict: each case is judged by `certify`, and by tests/judging.py, which has `trace` play what the case
 tells and compares; and both have to say the same, also what was decided. Builds a program for it (tests/scratch.py,
@@ -47,6 +47,8 @@ Row = tuple[str, int, list[tuple[int, str]], str]
 Case = tuple[list[str], judging.Lists, list[judging.Decision] | None]
 # Of so many cases at most no script can say them, or the words leave them open: the others are judged.
 UNJUDGED = 0.1
+# The verdicts: of the last two no script can say the case, or the words leave it open.
+VERDICTS = ("found out", "a run", "unsaid", "open")
 
 
 def mixed(seed: int, head: str, folders: str, count: int) -> str:
@@ -84,19 +86,10 @@ def scripts() -> list[Row]:
         ("files.script", 4, [], text_of("examples", "serve", "files.script")),
         ("sweepers.script", 2, [], text_of("examples", "serve", "sweepers.script")),
         ("three servers", 4, [(6, "crash 0 0"), (12, "return 0 0"), (20, "crash 2 0")], mixed(1, three, "", 24)),
-        (
-            "small caches",
-            3,
-            [(5, "forget 1 0"), (9, "crash 3 0"), (9, "forget 0 1"), (15, "return 3 0")],
-            mixed(2, caches, "d", 20),
-        ),
-        (
-            "uneven votes",
-            8,
-            [(8, "forget 3 2"), (12, "crash 1 0"), (18, "return 1 0")],
-            mixed(3, uneven, "de", 24),
-        ),
-    ]
+        ("small caches", 3, [(5, "forget 1 0"), (9, "crash 3 0"), (9, "forget 0 1"), (15, "return 3 0")],
+         mixed(2, caches, "d", 20)),
+        ("uneven votes", 8, [(8, "forget 3 2"), (12, "crash 1 0"), (18, "return 1 0")], mixed(3, uneven, "de", 24)),
+    ]  # fmt: skip
 
 
 def deeds(script: str, given: list[tuple[int, str]]) -> str:
@@ -138,73 +131,54 @@ def told(
         sys.exit(f"the liar ended with status {process.returncode}")
 
 
-class Tally:
-    """What came of cases: how many of each kind of lie, and which differ."""
+class Came:
+    """What came of cases: how many of each verdict, and of each kind of lie."""
 
-    def __init__(self) -> None:
-        self.all, self.differ = collections.Counter[str](), 0
-        self.kinds = collections.Counter[tuple[int, str]]()
+    def __init__(self, tally: played.Tally) -> None:
+        self.tally, self.all, self.kinds = tally, collections.Counter[str](), collections.Counter[tuple[int, str]]()
 
     def take(self, name: str, lies: list[str], own: list[judging.Decision] | None, other: judging.Said) -> None:
         verdict = "a run" if own is not None else "found out"
         if other.verdict in ("unsaid", "open"):
             verdict = other.verdict
-        elif (other.decided if other.verdict == "a run" else None) != own:
-            self.differ += 1
-            print(
-                f"{name}: case {' '.join(lies)}: certify says {'a run' if own is not None else 'mismatch'},"
-                f" the judge {other.verdict}: {other.why}"
-            )
+        else:
+            is_so = (other.decided if other.verdict == "a run" else None) == own
+            certify = "a run" if own is not None else "mismatch"
+            self.tally.holds(is_so, name, f"case {' '.join(lies)}", f"certify says {certify}", *other[:2])
         self.all[verdict] += 1
         if len(lies) == 4:
             self.kinds[int(lies[0]), verdict] += 1
 
 
-def judge_script(liar: str, tally: Tally, cases: int, seed: int, row: Row) -> None:
+def judge_script(liar: str, came: Came, cases: int, seed: int, row: Row) -> None:
     """Judges the cases of a script."""
     name, agents, given, script = row
-    begun, before = time.monotonic(), collections.Counter(tally.all)
+    begun, before = time.monotonic(), collections.Counter(came.all)
     stream = told(liar, agents, seed, cases, (script, given))
     _, lists, decided = next(stream)
     whole = judging.Judge(script, agents, lists)
     first = whole.judge({})
-    if first.verdict != "a run" or first.decided != decided:
-        tally.differ += 1
-        print(f"{name}: of the run as it is the judge says {first.verdict}: {first.why}")
+    is_so = (first.verdict, first.decided) == ("a run", decided)
+    came.tally.holds(is_so, name, f"of the run as it is the judge says {first.verdict}: {first.why}")
     with ThreadPoolExecutor(len(os.sched_getaffinity(0))) as pool:
         while batch := list(itertools.islice(stream, BATCH)):
             for (lies, _, own), other in zip(batch, pool.map(lambda one: whole.judge(one[1]), batch)):
-                tally.take(name, lies, own, other)
-    counts = tally.all - before
-    print(
-        f"{name}: {agents} agents, {whole.size} items, {len(decided)} decided;"
-        f" {', '.join(f'{count} {what}' for what, count in sorted(counts.items()))};"
-        f" {time.monotonic() - begun:.1f} s",
-        flush=True,
-    )
+                came.take(name, lies, own, other)
+    counts = ", ".join(f"{count} {what}" for what, count in sorted((came.all - before).items()))
+    print(f"{name}: {agents} agents, {whole.size} items, {len(decided)} decided; {counts};"
+          f" {time.monotonic() - begun:.1f} s", flush=True)
 
 
-def main() -> int:
-    cases, seed = scratch.cases_and_seed(__doc__, 100_000)
-    liar, tally = scratch.built("liar", CRATES, MODULES), Tally()
-    for place, row in enumerate(scripts()):
-        judge_script(liar, tally, cases // len(scripts()), seed * len(scripts()) + place, row)
+def all_scripts(tally: played.Tally) -> None:
+    liar, came, rows = scratch.built("liar", CRATES, MODULES), Came(tally), scripts()
+    for place, row in enumerate(rows):
+        judge_script(liar, came, tally.given.cases // len(rows), tally.given.seed * len(rows) + place, row)
     for number, kind in enumerate(kind.strip() for kind in KINDS.replace("\n", " ").split(",")):
-        print(
-            f"  {kind}: {tally.kinds[number, 'found out']} found out, {tally.kinds[number, 'a run']} a run,"
-            f" {tally.kinds[number, 'unsaid']} unsaid, {tally.kinds[number, 'open']} open"
-        )
-    print(
-        f"{sum(tally.all.values())} cases: {tally.all['found out']} found out, {tally.all['a run']} a run,"
-        f" {tally.all['unsaid']} that no script"
-        f" can say, {tally.all['open']} that the words leave open; {tally.differ} differ"
-    )
-    judged, count = tally.all["found out"] + tally.all["a run"], sum(tally.all.values())
-    few = count - judged > UNJUDGED * count or min(tally.all["found out"], tally.all["a run"]) == 0
-    if few:
-        print(f"of {count} cases only {judged} are judged, or none is a run, or none is found out")
-    return 1 if tally.differ or few else 0
+        print(f"  {kind}:", ", ".join(f"{came.kinds[number, verdict]} {verdict}" for verdict in VERDICTS))
+    print(f"{sum(came.all.values())} cases:", ", ".join(f"{came.all[verdict]} {verdict}" for verdict in VERDICTS))
+    few = came.all["unsaid"] + came.all["open"] > UNJUDGED * sum(came.all.values())
+    tally.holds(not few and came.all["found out"] and came.all["a run"], "too few are judged, or none of a verdict")
 
 
 if __name__ == "__main__":
-    sys.exit(main())
+    played.plays(__doc__, "cases", all_scripts, cases=100_000, seed=1)

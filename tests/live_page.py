@@ -176,11 +176,15 @@ def asks(tally: Tally) -> None:
         tally.holds(again.token != live.token and len(again.token) > 40, "the token is another one", again.token)
 
 
-def tells(tally: Tally, folder: str) -> None:
+def tells(tally: Tally) -> None:
     """What a line is answered is what `play` prints for the script that is saved; a name may come late, a fault and a
     question are no part of the script, and a journal is gone on with.
     """
-    name = os.path.join(folder, "journal")
+    with tempfile.TemporaryDirectory() as folder:
+        tells_in(tally, os.path.join(folder, "journal"))
+
+
+def tells_in(tally: Tally, name: str) -> None:
     with Live(*OWN, "--journal", name) as live:
         answers = [live.tell(line) for line in STORY]
         script = live.script()
@@ -268,7 +272,14 @@ class Hand:
         return self.driver.value("document.getElementById('told').innerText")
 
 
-def clicks(tally: Tally, driver: browser.Browser, folder: str, shots: str) -> None:
+def by_hand(tally: Tally) -> bool:
+    with tempfile.TemporaryDirectory() as folder, browser.opened(tally) as driver:
+        if driver:
+            clicks(tally, driver, folder)
+    return False
+
+
+def clicks(tally: Tally, driver: browser.Browser, folder: str) -> None:
     """What the page shows by hand is what the page of the saved script shows."""
     with Live(*OWN) as live:
         hand = Hand(driver, live)
@@ -295,8 +306,8 @@ def clicks(tally: Tally, driver: browser.Browser, folder: str, shots: str) -> No
         tally.holds("denied op 1" in hand.told(), "a name of the script", hand.told())
         types(tally, hand)
         same_as_saved(tally, driver, live, folder)
-        if shots:
-            driver.shot(os.path.join(shots, "live.png"))
+        if tally.given.shots:
+            driver.shot(os.path.join(tally.given.shots, "live.png"))
         driver.open(live.address)
         hand.until("typeof Live === 'object'")
         same_as_saved(tally, driver, live, folder)
@@ -337,8 +348,7 @@ def nobody_answers(tally: Tally, driver: browser.Browser) -> None:
 def same_as_saved(tally: Tally, driver: browser.Browser, live: Live, folder: str) -> None:
     """The page shows what the page of the saved script shows, at each moment."""
     text = "".join(f"{line}\n" for line in live.script()).encode()
-    path = os.path.join(folder, "saved.html")
-    played.put(path, show.page_of(text, show.Shown(show.events_of(text))))
+    path = played.put(os.path.join(folder, "saved.html"), show.page_of(text, show.Shown(show.events_of(text))))
     moments = range(0, driver.value("Page.run.last") + 1, 5)
     ours = [driver.value(f"(Page.go({place}), {SEEN})") for place in moments]
     rows = driver.value("JSON.stringify(Page.run.rows)")
@@ -359,17 +369,5 @@ def same_as_saved(tally: Tally, driver: browser.Browser, live: Live, folder: str
     driver.ask("Target.closeTarget", {"targetId": other})
 
 
-def main() -> int:
-    tally, shots = Tally(most=20, width=600), browser.shots(__doc__)
-    asks(tally)
-    with tempfile.TemporaryDirectory() as folder:
-        tells(tally, folder)
-        ends(tally)
-        with browser.opened(tally) as driver:
-            if driver:
-                clicks(tally, driver, folder, shots)
-    return tally.told("looked at")
-
-
 if __name__ == "__main__":
-    sys.exit(main())
+    played.plays(__doc__, "looked at", asks, tells, ends, by_hand, most=20, width=600, shots="")

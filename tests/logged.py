@@ -10,8 +10,6 @@ words, the script or the file are faulty. Status 1 where one differs.
 import os
 import random
 import re
-import subprocess
-import sys
 import tempfile
 
 import judged
@@ -69,8 +67,8 @@ class Run:
         log = os.path.join(folder, "history")
         words = [built.program(), "serve", "--agents", str(self.agents), "--log", log]
         text = "\n".join([*self.lines, ""]).encode()
-        done = subprocess.run(words, input=text, stdout=subprocess.PIPE, check=False)
-        self.status, self.printed = done.returncode, done.stdout.decode().splitlines()
+        done = played.done(words, text)
+        self.status, self.printed = done.status, done.out.splitlines()
         self.history = played.text_of(log)
         self.events = [found for found in map(LINE.fullmatch, self.history.splitlines()) if found]
 
@@ -120,13 +118,12 @@ def ends(tally: played.Tally, folder: str) -> None:
         (["--agents", "2", "--log", "/dev/full"], good, 6),
     )  # fmt: skip
     for words, given, status in cases:
-        done = subprocess.run([os.path.join(played.TOP, "suites"), "serve", *words], input=given, capture_output=True)
-        tally.holds(done.returncode == status, words, done.returncode, done.stderr)
+        done = played.done([os.path.join(played.TOP, "suites"), "serve", *words], given)
+        tally.same(done.status, status, words, done.err)
 
 
-def main() -> int:
-    given = played.words(__doc__, runs=200, from_=1)
-    tally, beside, decided = played.Tally(20, 300), 0, 0
+def runs(tally: played.Tally) -> None:
+    given, beside, decided = tally.given, 0, 0
     with tempfile.TemporaryDirectory(prefix="suites-") as folder:
         for seed in range(given.from_, given.from_ + given.runs):
             run = Run(seed, folder)
@@ -135,8 +132,7 @@ def main() -> int:
         ends(tally, folder)
     # what never ran beside anything else would judge nothing
     tally.holds(beside > given.runs // 10 and decided > 10 * given.runs, f"{beside} runs in which jobs met")
-    print(f"{tally.count} facts of {given.runs} runs ({beside} with jobs that met), {tally.wrong} differ")
-    return 1 if tally.wrong else 0
 
 
-sys.exit(main())
+if __name__ == "__main__":
+    played.plays(__doc__, "facts of runs", runs, runs=200, from_=1, most=20, width=300)

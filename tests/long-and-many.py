@@ -1,24 +1,21 @@
 #!/usr/bin/env python3
-"""tests/long-and-many.py [PROGRAM [RUNS]]
+"""tests/long-and-many.py [--runs N] [PROGRAM]
 
-Runs of `serve` that are too long for a row. The program is the one that `./suites` runs (a checked build where nothing
-is proved), or the one that is named. Prints counts, seconds and memory; status 1 where something differs.
+Runs of `serve` that are too long for a row. Prints counts, seconds and memory; status 1 where something differs.
 """
 import collections
 import os
 import random
 import re
 import subprocess
-import sys
 import tempfile
 import time
 
 import played
 from scripting import header
 
-from common import console
+from common import text_of
 
-FILES = os.path.join(played.TOP, "examples", "serve", "files.script")
 SERVERS, AGENTS, JOBS, FOLDERS, NAMES = 16, 64, 100_000, 96, 64
 # How many suites a server has places for.
 PLACES = 4_096
@@ -35,24 +32,29 @@ ENDINGS = re.compile(
 
 
 class Run:
-    """One run of the program: its lines, its status, its seconds and the most memory that it had, in MB."""
+    """One run of the program: its lines, its seconds and the most memory that it had, in MB; and, of so many jobs, how
+    often each ending came, and their steps.
+    """
 
-    def __init__(self, program: str, agents: int, script: bytes) -> None:
+    def __init__(self, tally: played.Tally, agents: int, script: str, jobs: int | None = None) -> None:
         with tempfile.TemporaryFile() as given, tempfile.TemporaryFile() as told:
-            given.write(script)
+            given.write(script.encode())
             given.seek(0)
             begun = time.monotonic()
-            process = subprocess.Popen([program, "serve", "--agents", str(agents)], stdin=given, stdout=told)
+            process = subprocess.Popen([tally.program, "serve", "--agents", str(agents)], stdin=given, stdout=told)
             _, status, used = os.wait4(process.pid, 0)
             process.returncode = os.waitstatus_to_exitcode(status)
             self.seconds, self.memory = time.monotonic() - begun, used.ru_maxrss // 1024
-            self.status = process.returncode
             told.seek(0)
-            self.output = told.read()
-        self.lines = self.output.decode().splitlines()
-
-    def cost(self) -> str:
-        return f"{self.seconds:.1f} s, {self.memory} MB"
+            self.lines = told.read().decode().splitlines()
+        self.counts, self.steps = collections.Counter[str](), 0
+        is_whole = process.returncode == 0 and jobs in (None, len(self.lines) - 1)
+        tally.holds(is_whole, f"status {process.returncode}, {len(self.lines)} lines: {self.lines[-1:]}")
+        for job, line in enumerate(self.lines[:-1] if jobs and is_whole else []):
+            number, steps, ending = line.split(" ", 2)
+            self.steps += int(steps)
+            self.counts[kind_of(ending)] += 1
+            tally.fails((int(number) != job or not ENDINGS.fullmatch(ending)) and f"job {job}: {line}")
 
 
 def some_votes(first: int) -> str:
@@ -61,7 +63,7 @@ def some_votes(first: int) -> str:
     return ",".join("1" if place in named else "-" for place in range(max(named) + 1)) + "/2/2"
 
 
-def many_jobs() -> bytes:
+def many_jobs() -> str:
     """The script of many jobs."""
     chance = random.Random(SEED)
     last_server = ",".join(["-"] * (SERVERS - 1) + ["1"]) + "/1/1"
@@ -89,7 +91,7 @@ def many_jobs() -> bytes:
     shares = [share for share, _ in kinds]
     for number in range(FOLDERS, JOBS):
         lines.append(chance.choices(kinds, shares)[0][1](number))
-    return (header(SERVERS, None, cache="65536 65536 64") + "\n".join([*lines, ""])).encode()
+    return header(SERVERS, None, cache="65536 65536 64") + "\n".join([*lines, ""])
 
 
 def kind_of(ending: str) -> str:
@@ -98,104 +100,54 @@ def kind_of(ending: str) -> str:
     return f"{first} {rest.split()[0]}" if first in ("refused", "undecided") else first
 
 
-def judged(run: Run, jobs: int) -> tuple[collections.Counter[str], list[str], int]:
-    """How often each ending came, what is wrong with a run of so many jobs, and their steps."""
-    wrong, counts, steps = list[str](), collections.Counter[str](), 0
-    if run.status != 0 or len(run.lines) != jobs + 1:
-        wrong.append(f"status {run.status}, {len(run.lines)} lines: {run.lines[-1:]}")
-    for job, line in enumerate(run.lines[:-1] if not wrong else []):
-        number, own_steps, ending = line.split(" ", 2)
-        steps += int(own_steps)
-        counts[kind_of(ending)] += 1
-        if int(number) != job or not ENDINGS.fullmatch(ending):
-            wrong.append(f"job {job}: {line}")
-    return counts, wrong, steps
+def tells(tally: played.Tally, name: str, run: Run, jobs: int, steps: int) -> None:
+    """Says how a run ended, and holds how many steps were certified."""
+    counts = ", ".join(f"{count} {what}" for what, count in run.counts.most_common())
+    tally.same(run.lines[-1:], [f"certified {steps} steps"], name)
+    print(f"{name}: {jobs} jobs: {run.lines[-1:]}; {counts}; {run.seconds:.1f} s, {run.memory} MB")
 
 
-def shown(counts: collections.Counter[str]) -> str:
-    return ", ".join(f"{count} {what}" for what, count in counts.most_common())
-
-
-def last(run: Run) -> str:
-    return run.lines[-1] if run.lines else ""
-
-
-def many(program: str) -> list[str]:
+def many(tally: played.Tally) -> None:
     """100,000 jobs by 64 agents on 16 servers: files made, written, read, given lists and dropped, sweeps of servers at
     work, and a server that is filled with suites. Each job has its line, each ending that the script is to bring about
     comes, and the last line counts the steps of all jobs but those that a full server did not serve.
     """
-    run = Run(program, AGENTS, many_jobs())
-    counts, wrong, steps = judged(run, JOBS)
-    served = steps - counts["undecided U6"]
-    if last(run) != f"certified {served} steps":
-        wrong.append(f"{last(run)}, where the jobs tell of {served}")
+    run = Run(tally, AGENTS, many_jobs(), JOBS)
+    tells(tally, "many", run, JOBS, run.steps - run.counts["undecided U6"])
     wanted = ["answered", "refused F4", "refused F5", "swept", *(f"undecided U{code}" for code in (2, 3, 4, 6))]
-    wrong += [f"no job ended as {kind}" for kind in wanted if not counts[kind]]
-    print(f"many: {JOBS} jobs, {AGENTS} agents, {SERVERS} servers: {last(run)}; {shown(counts)}; {run.cost()}")
-    return wrong
+    for kind in wanted:
+        tally.holds(run.counts[kind], f"no job ended as {kind}")
 
 
-def long(program: str) -> list[str]:
+def long(tally: played.Tally) -> None:
     """Lists by 4 agents on one server, until its history is full: 1,000,000 steps are certified, and whoever asks after
     that is told that the server is full.
     """
     jobs = HISTORY // 5 + 200
-    script = header(1, None, "1/1/1") + "together\n" + "do 1000 100 0 list /\n" * jobs
-    run = Run(program, 4, script.encode())
-    _, wrong, _ = judged(run, jobs)
-    if last(run) != f"certified {HISTORY} steps":
-        wrong.append(last(run))
-    answers = collections.Counter(line.split(" ", 2)[2] for line in run.lines[:-1])
-    if set(answers) != {"answered list -", "undecided U6 server 0"}:
-        wrong.append(f"{answers}")
-    print(f"long: {jobs} jobs, 4 agents, 1 server: {last(run)}; {shown(answers)}; {run.cost()}")
-    return wrong
+    run = Run(tally, 4, header(1, None, "1/1/1") + "together\n" + "do 1000 100 0 list /\n" * jobs, jobs)
+    tells(tally, "long", run, jobs, HISTORY)
+    tally.same({line.split(" ", 2)[2] for line in run.lines[:-1]}, {"answered list -", "undecided U6 server 0"}, "long")
 
 
-def busy(program: str) -> list[str]:
+def busy(tally: played.Tally) -> None:
     """Writes of one file on one server, which is so asked to prepare more suites than it has places for, but one again
     and again: nobody is told that it is full.
     """
     jobs = 8_000
     script = header(1, None, "1/1/1") + "do 1000 100 0 file /f 666\n"
-    run = Run(program, AGENTS, (script + "do 1000 100 0 write /f 00\n" * (jobs - 1)).encode())
-    counts, wrong, steps = judged(run, jobs)
-    if last(run) != f"certified {steps} steps":
-        wrong.append(f"{last(run)}, where the jobs tell of {steps}")
-    if counts["answered"] < PLACES or counts["undecided U6"]:
-        wrong.append(f"{counts}")
-    print(f"busy: {jobs} jobs, {AGENTS} agents, 1 server: {last(run)}; {shown(counts)}; {run.cost()}")
-    return wrong
+    run = Run(tally, AGENTS, script + "do 1000 100 0 write /f 00\n" * (jobs - 1), jobs)
+    tells(tally, "busy", run, jobs, run.steps)
+    tally.holds(run.counts["answered"] >= PLACES and not run.counts["undecided U6"], "busy", run.counts)
 
 
-def often(program: str, runs: int) -> list[str]:
+def often(tally: played.Tally) -> None:
     """So many runs of `examples/serve/files.script`, with 2, 4 and 64 agents in turn: one output."""
-    script = played.got(FILES)
-    outputs, seconds = collections.Counter[tuple[int, bytes]](), 0.0
-    for number in range(runs):
-        run = Run(program, (2, 4, AGENTS)[number % 3], script)
-        outputs[(run.status, run.output)] += 1
-        seconds += run.seconds
-    ends = b"certified 192 steps\n"
-    wrong = [f"{count} runs: status {status}, {output!r}" for (status, output), count in outputs.items()]
-    print(
-        f"often: {runs} runs of files.script, by 2, 4 and {AGENTS} agents in turn: {len(outputs)} output;"
-        f" {seconds:.1f} s"
-    )
-    is_one = len(outputs) == 1 and all(status == 0 and output.endswith(ends) for status, output in outputs)
-    return [] if is_one else wrong
-
-
-def main() -> int:
-    read = console.words(__doc__)
-    read.add_argument("program", nargs="?")
-    read.add_argument("runs", nargs="?", type=int, default=1000)
-    given = read.parse_args()
-    program, runs = played.program(given.program), given.runs
-    wrong = often(program, runs) + many(program) + long(program) + busy(program)
-    return played.verdict(runs + 3, "runs", wrong if runs else ["nothing was run often"], 20)
+    script = text_of("examples", "serve", "files.script")
+    outputs = {"\n".join(Run(tally, (2, 4, AGENTS)[number % 3], script).lines) for number in range(tally.given.runs)}
+    is_one = len(outputs) == 1 and all(output.endswith("\ncertified 192 steps") for output in outputs)
+    tally.holds(is_one, "often", outputs)
+    tally.count += tally.given.runs
 
 
 if __name__ == "__main__":
-    sys.exit(main())
+    played.plays(__doc__, "runs and ends", often, many, long, busy, program=None, runs=1000, most=20)

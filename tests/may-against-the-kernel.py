@@ -202,20 +202,16 @@ def ask(form: str, place: str, kind: str, given: argparse.Namespace, questions: 
     return count
 
 
-def main() -> int:
-    on, forms_of = (*kernel_systems.KINDS, "all"), ("", *FORMS)
-    given = played.words(
-        __doc__, "program", questions=2000, seed=1, form=forms_of, on=on, mounts=False, if_possible=False
-    )
+def asks(tally: played.Tally) -> bool | None:
+    given, every = tally.given, Count()
     if given.program:
-        os.environ["MAY"] = os.path.abspath(given.program)
+        os.environ["MAY"] = tally.program
     os.umask(0)
     kinds = kernel_systems.KINDS if given.on == "all" else (given.on,)
     forms = [given.form] if given.form else list(FORMS)
     if given.if_possible and not shutil.which("setfacl"):
         print("skipped: changes, which need setfacl (Debian's package `acl`)")
         forms = [form for form in forms if form not in NEED_SETFACL]
-    every = Count()
     for kind in kinds:
         with kernel_systems.mounted(kind) as place:
             if place and is_possible(place):
@@ -224,9 +220,10 @@ def main() -> int:
                     every.add(ask(form, place, kind, given, -(-given.questions // len(kinds))))
             else:
                 print(f"skipped: {kind}, which needs root, and a file system with lists")
-    print(f"{every.asked} questions, {every.wrong} differ")
-    return 1 if every.wrong or not (every.asked or given.if_possible) else 0
+    tally.count, tally.wrong = every.asked, every.wrong
+    return given.if_possible and not every.asked or None
 
 
 if __name__ == "__main__":
-    raise SystemExit(main())
+    played.plays(__doc__, "questions", asks, program=None, questions=2000, seed=1, form=("", *FORMS),
+                 on=(*kernel_systems.KINDS, "all"), mounts=False, if_possible=False)  # fmt: skip

@@ -10,15 +10,13 @@ import io
 import os
 import re
 import shlex
-import subprocess
-import sys
 import tempfile
 
 import played
 from kernel_trees import ACCESS, GROUP, MASK, NOTHING, OTHER, OWNER, OWNING, USER, packed
 from played import Tally
 
-from common import built, text_of, tool
+from common import text_of, tool
 from may import changes, everybody, lint, lists, mounts, people, program, saying
 from may.people import Caller
 
@@ -29,26 +27,24 @@ MOST = 16 * 1024 * 1024
 
 def by_streams(tally: Tally) -> None:
     """Streams that fail, and an input that is too long; crates/rows/stdin has rows of what is asked."""
-    path = program.program()
-    told = built.asked("may", "", "-x", path=path)
-    tally.holds(told == (2, "fault command line\n"), f"a word: {told}")
+    if tally.given.program:
+        os.environ["MAY"] = os.path.abspath(tally.given.program)
+    words = [program.program(), "may"]
+    tally.same(played.done([*words, "-x"])[:2], (2, "fault command line\n"), "a word")
     with open("/dev/full", "wb") as full:
-        done = subprocess.run([path, "may"], input=f"1 1 1 1 r {LIST}\n".encode(), stdout=full)
-    tally.holds(done.returncode == 6, f"a write that fails: {done.returncode}")
-    done = subprocess.run([path, "may"], stdin=os.open("/", os.O_RDONLY), stdout=subprocess.PIPE)
-    tally.holds((done.returncode, done.stdout) == (6, b""), f"a read that fails: {done}")
-    told = built.asked("may", b"\n" * (MOST + 1), path=path)
-    tally.holds(told == (6, ""), f"an input that is too long: {told}")
+        tally.same(played.done(words, f"1 1 1 1 r {LIST}\n", stdout=full).status, 6, "a write that fails")
+    tally.same(played.done(words, stdin=os.open("/", os.O_RDONLY))[:2], (6, ""), "a read that fails")
+    tally.same(played.done(words, b"\n" * (MOST + 1))[:2], (6, ""), "an input that is too long")
 
 
 def asks(tally: Tally, words: list[str], status: int, last: str, strict: bool = False) -> None:
     """The command, its status, and what its last line has."""
     env = {**os.environ, **({"PYTHONIOENCODING": "utf-8:strict", "LC_ALL": "C"} if strict else {})}
-    done = subprocess.run(tool("may", *words), env=env, stdin=subprocess.DEVNULL, capture_output=True, text=True)
+    done = played.done(tool("may", *words), env=env)
     # a checked build says so
-    lines = [line for line in (done.stdout + done.stderr).splitlines() if not line.startswith("suites: checked build")]
-    is_so = done.returncode == status and lines and last in lines[-1]
-    tally.holds(is_so, f"may {words}: {done.returncode}, and not {status} with {last!r}: {lines}")
+    lines = [line for line in (done.out + done.err).splitlines() if not line.startswith("suites: checked build")]
+    is_so = done.status == status and lines and last in lines[-1]
+    tally.holds(is_so, f"may {words}: {done.status}, and not {status} with {last!r}: {lines}")
 
 
 # Words that are refused, each with where to read.
@@ -240,20 +236,6 @@ def shown_code_stands(tally: Tally) -> None:
         tally.holds(plain(block) in sources, f"this of docs/LIBRARY.md stands in no file of crates/may/src:\n{block}")
 
 
-def main() -> int:
-    named = played.words(__doc__, "program").program
-    if named:
-        os.environ["MAY"] = os.path.abspath(named)
-    tally = Tally()
-    by_streams(tally)
-    asks_of_files(tally)
-    asks_of_names(tally)
-    asks_of_lists(tally)
-    reads_mounts(tally)
-    says_how_far(tally)
-    shown_code_stands(tally)
-    return tally.told("things")
-
-
 if __name__ == "__main__":
-    sys.exit(main())
+    played.plays(__doc__, "things", by_streams, asks_of_files, asks_of_names, asks_of_lists, reads_mounts, says_how_far,
+                 shown_code_stands, program=None)  # fmt: skip

@@ -10,7 +10,6 @@ import errno
 import os
 import random
 import signal
-import sys
 import time
 
 import mounted
@@ -62,9 +61,9 @@ def answered(log: str) -> tuple[dict[str, str], str]:
     return known, begun
 
 
-def is_restored(tally: played.Tally, rounds: int) -> None:
+def is_restored(tally: played.Tally) -> None:
     """Killed under load, and mounted again: what was answered is there; of what was not, either the old or the new."""
-    dice, seen = random.Random(3), 0
+    dice, seen, rounds = random.Random(3), 0, tally.given.rounds
     with Mounted("--root", "0:0:777", journal=True) as mount:
         for number in range(rounds):
             children = forked(mount.top, mount.room, LOADED, 60)
@@ -199,17 +198,6 @@ def keeps_its_memory(tally: played.Tally) -> None:
         tally.holds(told[-1] - told[0] < MORE, f"the adapter's memory grows with files read: {told}")
 
 
-def main() -> int:
-    given = played.words(__doc__, rounds=10)
-    if mounted.skipped():
-        return 0
-    tally = played.Tally(most=20)
-    keeps_its_memory(tally)
-    is_full(tally)
-    bears_many(tally)
-    is_restored(tally, given.rounds)
-    return tally.told("things that a mount bears")
-
-
 if __name__ == "__main__":
-    sys.exit(main())
+    parts = (mounted.skipped, keeps_its_memory, is_full, bears_many, is_restored)
+    played.plays(__doc__, "things that a mount bears", *parts, rounds=10, most=20)

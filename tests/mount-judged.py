@@ -19,7 +19,7 @@ import time
 import mounted
 import played
 
-from common import built, console, text_of, tool
+from common import built, text_of, tool
 
 READERS, OWNER, PAUSE = 7, "1000:100:755", 0.2
 FILE = os.path.join("tools", "mount", "data.py")
@@ -110,8 +110,9 @@ def with_error(text: str, folder: str) -> None:
     mounted.DOOR[:] = [sys.executable, os.path.join(folder, "tools"), "mount"]
 
 
-def whole(tally: played.Tally, runs: int, calls: int) -> None:
+def whole(tally: played.Tally) -> None:
     """The mount as it is."""
+    runs, calls = tally.given.runs, tally.given.calls
     kept = [Run(seed, calls, seed % 2 == 0) for seed in range(1, runs + 1)]
     for seed, run in enumerate(kept, 1):
         tally.holds(run.is_one_table(), f"seed {seed}", run.said)
@@ -126,21 +127,17 @@ def whole(tally: played.Tally, runs: int, calls: int) -> None:
     )
 
 
-def main() -> int:
-    given = played.words(__doc__, runs=20, calls=250)
-    if mounted.skipped():
-        return 0
-    tally, door = played.Tally(), list(mounted.DOOR)
-    whole(tally, given.runs, given.calls)
+def planted(tally: played.Tally) -> None:
+    """The mount with an error."""
+    door = list(mounted.DOOR)
     for name, text in ERRORS.items():
         with tempfile.TemporaryDirectory(prefix="suites-", dir=mounted.PLACE) as folder:
             with_error(text, folder)
-            run = Run(1, given.calls, False)
+            run = Run(1, tally.given.calls, False)
             print(f"with {name}: {run.said}", flush=True)
             tally.holds(run.said.startswith("no: "), f"{name} is not found", run.said)
             mounted.DOOR[:] = door
-    return tally.told("verdicts and loads")
 
 
 if __name__ == "__main__":
-    console.run(main, "stopped")
+    played.plays(__doc__, "verdicts and loads", mounted.skipped, whole, planted, runs=20, calls=250)

@@ -11,7 +11,6 @@ import random
 import re
 import shutil
 import subprocess
-import sys
 import tempfile
 import threading
 import time
@@ -80,29 +79,25 @@ class Weather(threading.Thread):
 
 
 def play(tally: played.Tally, plain: dict[str, tuple[tuple[int, str], list[tuple[str, str, bytes]]]], mount: Mounted,
-         about: str) -> float:
-    """Runs all scripts on a mount, and compares them; answers how long that took."""
-    begun = time.monotonic()
+         about: str) -> None:
+    """Runs all scripts on a mount, and compares them; says how long that took."""
     spent = []
     for name, (printed, files) in plain.items():
         folder, since = os.path.join(mount.top, name), time.monotonic()
         os.mkdir(folder)
         told = run(SCRIPTS[name], folder)
-        spent.append(f"{name} {time.monotonic() - since:.1f} s")
+        spent.append(time.monotonic() - since)
         tally.holds(told == printed, f"{name}, {about}", f"it printed {told}", f"and beside the mount {printed}")
         stand = list(left(folder))
         differ = [one[:2] for one in stand if one not in files] + [one[:2] for one in files if one not in stand]
         tally.holds(not differ, f"{name}, {about}", f"another file stands there: {differ}")
         shutil.rmtree(folder)
-    print(f"{about}: {', '.join(spent)}", flush=True)
-    return time.monotonic() - begun
+    each = ", ".join(f"{name} {seconds:.1f} s" for name, seconds in zip(plain, spent))
+    print(f"{about}: {each}, all {sum(spent):.1f} s", flush=True)
 
 
-def main() -> int:
-    given = played.words(__doc__, well=False)
-    if mounted.skipped():
-        return 0
-    tally, plain = played.Tally(width=3000), {}
+def all_weathers(tally: played.Tally) -> None:
+    plain = {}
     for name in SCRIPTS:
         if not there(name):
             print(f"{name} is not there")
@@ -111,19 +106,18 @@ def main() -> int:
             plain[name] = run(SCRIPTS[name], folder), list(left(folder))
             tally.holds(plain[name][0][0] == 0, name, "it fails beside the mount", plain[name][0])
     with Mounted("--root", "0:0:755", journal=True) as mount:
-        print(f"all servers up: {play(tally, plain, mount, 'all servers up'):.1f} s")
-    if not given.well:
+        play(tally, plain, mount, "all servers up")
+    if not tally.given.well:
         with Mounted("--root", "0:0:755") as mount:
             mount.control("crash 2")
-            print(f"a server down: {play(tally, plain, mount, 'a server down'):.1f} s")
+            play(tally, plain, mount, "a server down")
         with Mounted("--root", "0:0:755") as mount:
             weather = Weather(mount)
             weather.start()
-            seconds = play(tally, plain, mount, "servers that crash and return")
+            play(tally, plain, mount, "servers that crash and return")
             weather.ends()
-            print(f"servers that crash and return, {weather.crashes} crashes: {seconds:.1f} s")
-    return tally.told("comparisons")
+            print(f"{weather.crashes} crashes")
 
 
 if __name__ == "__main__":
-    sys.exit(main())
+    played.plays(__doc__, "comparisons", mounted.skipped, all_weathers, well=False, width=3000)

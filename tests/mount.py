@@ -321,20 +321,6 @@ def ends(tally: played.Tally) -> None:
         tally.holds(done.returncode == 0 and os.path.ismount(mount.top), "it does not go into the background")
 
 
-def main() -> int:
-    if mounted.skipped():
-        return 0
-    tally = played.Tally()
-    decides_nothing(tally)
-    minds_umask(tally)
-    sees_what_is_written(tally)
-    takes_rights_away(tally)
-    answers_errors(tally)
-    is_controlled(tally)
-    records_denials(tally)
-    ends(tally)
-    return tally.told("answers of the mount")
-
-
 if __name__ == "__main__":
-    sys.exit(main())
+    played.plays(__doc__, "answers of the mount", mounted.skipped, decides_nothing, minds_umask, sees_what_is_written,
+                 takes_rights_away, answers_errors, is_controlled, records_denials, ends)  # fmt: skip

@@ -33,7 +33,7 @@ def wanting() -> str:
     return "" if is_there else "no session"
 
 
-def skipped() -> bool:
+def skipped(_: object = None) -> bool:
     """Says so where the test cannot be played here."""
     why = wanting()
     if why:

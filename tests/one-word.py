@@ -9,9 +9,9 @@ import glob
 import os
 import re
 
-from played import TOP, Tally, words
+from played import TOP, Tally, plays
 
-from common import console, text_of
+from common import text_of
 from pages import proved_page
 
 # As many names of records are those of several crates at most, and so many public types are found at least.
@@ -41,9 +41,8 @@ def records() -> dict[str, set[str]]:
     return found
 
 
-def main() -> int:
-    is_told = words(__doc__, told=False).told
-    tally, owners = Tally(), collections.defaultdict(set)
+def looks(tally: Tally) -> None:
+    owners = collections.defaultdict(set)
     for crate in proved_page.crates():
         for name in types(crate):
             owners[name].add(crate)
@@ -52,11 +51,10 @@ def main() -> int:
     tally.holds(len(owners) >= FEWEST, f"only {len(owners)} public types are found")
     doubles = {name: crates for name, crates in records().items() if len(crates) > 1}
     tally.holds(len(doubles) <= MOST, f"{len(doubles)} names of records are those of several crates, and not {MOST}")
-    for name, crates in sorted(doubles.items()) if is_told else ():
+    for name, crates in sorted(doubles.items()) if tally.given.told else ():
         print(f"{name}: {' '.join(sorted(crates))}")
     print(f"told: {len(doubles)} names of records are those of several crates")
-    return tally.told("names of types")
 
 
 if __name__ == "__main__":
-    console.run(main, "stopped")
+    plays(__doc__, "names of types", looks, told=False)

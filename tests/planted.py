@@ -13,11 +13,8 @@ few-to-write  a write collects a vote less than w
 few-to-read   a read collects a vote less than r
 aborted       what was prepared is put in place where a transaction was aborted, too
 """
-import argparse
 import os
 import random
-import shutil
-import subprocess
 import sys
 import tempfile
 import typing
@@ -56,20 +53,15 @@ ERRORS = {
 
 def program_with(planted: Planted, folder: str) -> str:
     """The path of the program, built in a folder of sources into which an error is planted."""
-    shutil.copytree(os.path.join(played.TOP, "tools"), os.path.join(folder, "tools"))
     own = os.path.join(played.TOP, "crates", PROGRAM, "src")
     sources = {os.path.splitext(name)[0]: os.path.join(own, name) for name in os.listdir(own)}
     scratch.placed(folder, PROGRAM, crates.listed()[PROGRAM], sources)
-    path = os.path.join(folder, planted.file)
+    path, target = os.path.join(folder, planted.file), os.path.join(folder, PROGRAM)
     text = text_of(path)
     if text.count(planted.old) != 1:
         sys.exit(f"{planted.file} has not once: {planted.old}")
     played.put(path, text.replace(planted.old, planted.new))
-    target = os.path.join(folder, PROGRAM)
-    environment = {**os.environ, "PYTHONPATH": os.path.join(folder, "tools")}
-    words = [sys.executable, "-c", scratch.BUILD, target, PROGRAM]
-    if subprocess.run(words, env=environment, stdin=subprocess.DEVNULL).returncode != 0:
-        sys.exit(f"{PROGRAM} was not built")
+    scratch.build(folder, PROGRAM, target)
     return target
 
 
@@ -102,9 +94,9 @@ def judged(program: str, seed: int, sweeps: float, folder: str) -> tuple[str, st
     """What the program prints last of a script, and what the judge says of what its callers saw."""
     log = os.path.join(folder, "history")
     words = [program, "serve", "--agents", str(AGENTS), "--log", log]
-    done = subprocess.run(words, input=script(seed, sweeps).encode(), stdout=subprocess.PIPE, check=False)
+    done = played.done(words, script(seed, sweeps))
     said = built.asked("judge", played.got(log))[1]
-    return (done.stdout.decode().splitlines() or [f"status {done.returncode}"])[-1], said.strip()
+    return (done.out.splitlines() or [f"status {done.status}"])[-1], said.strip()
 
 
 def found(program: str, calls: int, sweeps: float, folder: str) -> str:
@@ -118,22 +110,17 @@ def found(program: str, calls: int, sweeps: float, folder: str) -> str:
     return ""
 
 
-def main() -> int:
-    read = argparse.ArgumentParser(description=__doc__, formatter_class=argparse.RawDescriptionHelpFormatter)
-    read.add_argument("errors", nargs="*", metavar="ERROR", help=" ".join(ERRORS))
-    read.add_argument("--calls", type=int, default=100_000)
-    given = read.parse_args()
-    tally = played.Tally()
+def all_errors(tally: played.Tally) -> None:
+    calls = tally.given.calls
     with tempfile.TemporaryDirectory(prefix="suites-") as folder:
-        said = found(built.program(), given.calls, 0.02, folder)
+        said = found(built.program(), calls, 0.02, folder)
         tally.holds(not said, f"as it is: {said}")
-    for error in given.errors or ERRORS:
+    for error in tally.given.errors or ERRORS:
         with tempfile.TemporaryDirectory(prefix="suites-") as folder:
-            said = found(program_with(ERRORS[error], folder), given.calls, 0.02 if error == "aborted" else 0, folder)
+            said = found(program_with(ERRORS[error], folder), calls, 0.02 if error == "aborted" else 0, folder)
             print(f"{error}: {said or 'not found'}", flush=True)
             tally.holds(said, f"{error}: not found")
-    print(f"{tally.count} programs, {tally.wrong} differ")
-    return 1 if tally.wrong else 0
 
 
-sys.exit(main())
+if __name__ == "__main__":
+    played.plays(__doc__, "programs", all_errors, errors=[], calls=100_000)

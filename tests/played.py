@@ -1,15 +1,20 @@
 """The program that a test plays, the rows of crates/rows/stdin, the words of tests, and what tests count."""
 import argparse
 import contextlib
+import functools
 import os
+import select
 import shutil
 import signal
 import subprocess
 import sys
+import tempfile
 import typing
 
 # What a test starts is stopped by Ctrl-C also where the test itself, as one that runs in the background, is not.
 signal.signal(signal.SIGINT, signal.default_int_handler)
+# The seconds after which nothing more is taken to come to a terminal.
+QUIET = 3
 TOP = os.path.realpath(os.path.join(os.path.dirname(os.path.abspath(__file__)), ".."))
 # What tests import of the tools, before what of tests has the same name: the one edit of where modules are looked for.
 sys.path.insert(0, os.path.join(TOP, "tools"))
@@ -27,27 +32,23 @@ def program(named: str | None = None) -> str:
     return path
 
 
-def words(doc: str, *places: str, **options: typing.Any) -> argparse.Namespace:
-    """The words of a test: places that need not be filled, and options. Each option has what it is where it is not
-    given: a number, a text, False where its name alone is all, or some texts, of which it is one, and first the first.
-    The name `from_` is that of the option --from.
+def words(doc: str, **options: typing.Any) -> argparse.Namespace:
+    """The words of a test. Each option has what it is where it is not given: a number, a text, False where its name
+    alone is all, some texts, of which it is one, and first the first, or a list of any words. The name `from_` is that
+    of the option --from; `program` is a word by itself, and names a build of the program.
     """
     read = console.words(doc)
-    for place in places:
-        read.add_argument(place, nargs="?")
     for name, value in options.items():
         how: dict[str, typing.Any] = {"type": type(value), "default": value}
         if isinstance(value, tuple):
             how = {"choices": value, "default": value[0]}
         elif value is False:
             how = {"action": "store_true"}
-        read.add_argument(f"--{name.rstrip('_').replace('_', '-')}", dest=name, **how)
+        if name == "program" or isinstance(value, list):
+            read.add_argument(name, nargs="?" if name == "program" else "*", default=value)
+        else:
+            read.add_argument(f"--{name.rstrip('_').replace('_', '-')}", dest=name, **how)
     return read.parse_args()
-
-
-def named_program(doc: str) -> str:
-    """The program of a test whose words name it or nothing."""
-    return program(words(doc, "program").program)
 
 
 def put(path: str, content: str | bytes) -> str:
@@ -64,39 +65,85 @@ def got(path: str) -> bytes:
 
 
 def stories(folder: str = "play") -> dict[str, str]:
-    """The scripts of a folder of examples/, by their names."""
+    """The scripts of a folder, or one of examples/, by their names."""
     top = os.path.join(TOP, "examples", folder)
     return {name: text_of(top, name) for name in sorted(os.listdir(top)) if name.endswith(".script")}
 
 
-def on_terminal(words: list[str], **how: typing.Any) -> tuple["subprocess.CompletedProcess[bytes]", str]:
-    """How a command ends whose standard error is a terminal, and what that shows."""
-    own, terminal = os.openpty()
-    done = subprocess.run(words, stdout=subprocess.PIPE, stderr=terminal, **how)
-    os.close(terminal)
-    return done, shown_on(own)
+class Done(typing.NamedTuple):
+    """How a command ended: its status, what it printed, and what it said on standard error."""
+
+    status: int
+    out: str
+    err: str
 
 
-def shown_on(terminal: int) -> str:
-    """What was written to a terminal to which nobody writes any more; closes it."""
-    shown = b""
-    with contextlib.suppress(OSError):
-        while piece := os.read(terminal, 4096):
-            shown += piece
-    os.close(terminal)
-    return shown.decode()
+def done(words: typing.Iterable[str | bytes], given: str | bytes | None = None, **how: typing.Any) -> Done:
+    """How a command ends that reads this, or else nothing, or what `how` says."""
+    how = {"stdout": subprocess.PIPE, "stderr": subprocess.PIPE, **how}
+    if given is not None:
+        how["input"] = given if isinstance(given, bytes) else given.encode("latin1")
+    elif "stdin" not in how:
+        how["stdin"] = subprocess.DEVNULL
+    ended = subprocess.run([*words], **how)
+    told, said = ((text or b"").decode("latin1") for text in (ended.stdout, ended.stderr))
+    return Done(ended.returncode, told, said)
+
+
+class Shown(typing.NamedTuple):
+    """How a command ended on a terminal, what that showed, and what was printed where that is no terminal."""
+
+    status: int
+    text: str
+    printed: str
+
+
+def on_terminal(
+    words: list[str], *typed: bytes, given: bytes | None = None,
+    heard: typing.Callable[["subprocess.Popen[bytes]"], object] | None = None, both: bool = False, **how: typing.Any,
+) -> Shown:  # fmt: skip
+    """How a command ends whose standard error is a terminal, with `both` its standard output too, and its input where
+    none is given. Each of some pieces is typed once nothing more comes; something is done once it says how far it is.
+    """
+    own, end = os.openpty()
+    with tempfile.TemporaryFile() as read, tempfile.TemporaryFile() as printed:
+        read.write(given or b"")
+        read.seek(0)
+        how = {"stdin": end if given is None else read, "stdout": end if both else printed, **how}
+        process = subprocess.Popen(words, stderr=end, start_new_session=True, **how)
+        os.close(end)
+        shown, left = b"", [*typed]
+        with contextlib.suppress(OSError):
+            while (comes := select.select([own], [], [], QUIET if left else 60)[0]) or left:
+                if not comes:
+                    os.write(own, left.pop(0))
+                elif piece := os.read(own, 4096):
+                    shown += piece
+                else:
+                    break
+                if heard and shown.endswith(b" s"):
+                    heard(process)
+                    heard = None
+        status = process.wait(60)
+        os.close(own)
+        printed.seek(0)
+        return Shown(status, shown.decode().replace("\r\n", "\n"), printed.read().decode("latin1"))
 
 
 class Library:
     """A library that stands before calls of the system, made of a file here: tests/fail.c has them fail, tests/refuse.c
-    refuses memory. None is made where there is no compiler.
+    refuses memory. None is made where there is no compiler, which is said.
     """
 
     def __init__(self, name: str, folder: str) -> None:
         self.front, self.path = name.upper(), os.path.join(folder, f"{name}.so")
         self.mark = os.path.join(folder, "mark")
+        self.is_made = bool(shutil.which("cc"))
         words = ["cc", "-shared", "-fPIC", "-O1", "-o", self.path, os.path.join(TOP, "tests", f"{name}.c"), "-ldl"]
-        self.is_made = bool(shutil.which("cc")) and subprocess.run(words, stderr=subprocess.DEVNULL).returncode == 0
+        if not self.is_made:
+            print("skipped: no cc")
+        elif done(words).status != 0:
+            sys.exit(f"tests/{name}.c is not compiled")
 
     def env(self, **which: int) -> dict[str, str]:
         """The environment of a program of which these calls fail."""
@@ -128,13 +175,18 @@ def below(process: int) -> list[int]:
 
 
 class Tally:
-    """Counts what is looked at, and what of it differs. Prints what is told of this: of the first ones, as many as
-    `most`, and of each so many characters as `width`.
+    """Counts what a test looks at, and what of it differs. Prints what is told of this: of the first ones, as many as
+    `most`, and of each so many characters as `width`. What the words of the test say is `given`.
     """
 
-    def __init__(self, most: int = sys.maxsize, width: int = sys.maxsize) -> None:
+    def __init__(self, most: int = sys.maxsize, width: int = sys.maxsize, given: typing.Any = None) -> None:
         self.count = self.wrong = 0
-        self.most, self.width = most, width
+        self.most, self.width, self.given = most, width, given
+
+    @functools.cached_property
+    def program(self) -> str:
+        """The program that is named, or the one that `./suites` runs; ends the test without it."""
+        return program(getattr(self.given, "program", None))
 
     def holds(self, is_so: object, *about: object) -> None:
         self.count += 1
@@ -159,11 +211,21 @@ class Tally:
         return 1 if self.wrong or not self.count else 0
 
 
-def verdict(count: int, what: str, wrong: typing.Sequence[str], most: int = sys.maxsize) -> int:
-    """The status of a test that looked at so many: 1 where something is wrong, or there was nothing to look at. Prints
-    the first of what is wrong, as many as `most`, and the counts.
+def plays(doc: str, what: str, *parts: typing.Callable[[Tally], object], **how: typing.Any) -> typing.NoReturn:
+    """A test: what it counts, its parts, which count it, and its options; `most` and `width` say how much is told. A
+    part has failed that counts nothing; but one that cannot be played here, as it has said, answers False, and True
+    where nothing of the test can be.
     """
-    tally = Tally(most)
-    tally.count = count
-    tally.fails(*wrong)
-    return tally.told(what)
+    tally = Tally(how.pop("most", sys.maxsize), how.pop("width", sys.maxsize))
+
+    def main() -> int:
+        tally.given = words(doc, **how)
+        for part in parts:
+            count, is_over = tally.count, part(tally)
+            if is_over is True:
+                return 0
+            tally.fails(is_over is None and tally.count == count and f"{part.__name__} has compared nothing")
+        return tally.told(what)
+
+    console.run(main, "stopped")
+    raise AssertionError

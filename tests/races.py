@@ -1,9 +1,9 @@
 #!/usr/bin/env python3
-"""tests/races.py [RUNS]
+"""tests/races.py [--runs N]
 
 Looks for data races among agents in threads: builds the program as front/trial.py does, but with each function of its
 module under clang's ThreadSanitizer and linked with gcc's libtsan (the package libgcc-12-dev), and runs scripts of
-`serve` with 2 to 64 agents, RUNS times each (default 2). A report is a race; what is printed has to be what `serve`
+`serve` with 2 to 64 agents, N times each (default 2). A report is a race; what is printed has to be what `serve`
 prints.
 
 The same once more is the control: linked so that each atomic of the module is one of memory_order_relaxed, whatever it
@@ -15,10 +15,8 @@ Where MODULE names a module that was made before (the one of tools/front/trial.p
 """
 import os
 import re
-import subprocess
 import tempfile
 import typing
-import time
 
 import played
 
@@ -81,10 +79,10 @@ def weakened() -> tuple[list[str], str]:
 
 def done(words: list[str], folder: str) -> str:
     """Runs a command, which has to end well; what it prints."""
-    ended = subprocess.run(words, cwd=folder, stdin=subprocess.DEVNULL, capture_output=True, text=True)
-    if ended.returncode != 0:
-        raise console.Stop(f"{' '.join(words[:2])} ..: status {ended.returncode}: {console.tail(ended.stderr)}")
-    return ended.stdout
+    ended = played.done(words, cwd=folder)
+    if ended.status != 0:
+        raise console.Stop(f"{' '.join(words[:2])} ..: status {ended.status}: {console.tail(ended.err)}")
+    return ended.out
 
 
 def linked(folder: str, made: str, target: str, options: typing.Sequence[str] = (), text: str = "") -> None:
@@ -131,47 +129,33 @@ def reports(program: str, runs: int, with_names: bool) -> tuple[int, int, int]:
     first report is printed where names are wanted; without them a report is had ten times sooner.
     """
     count, found, other = 0, 0, 0
-    options = {
-        **os.environ,
-        "TSAN_OPTIONS": f"exitcode=0 halt_on_error=0 report_thread_leaks=0 symbolize={int(with_names)}",
-    }
+    options = f"exitcode=0 halt_on_error=0 report_thread_leaks=0 symbolize={int(with_names)}"
     for name in SCRIPTS:
         script = text_of("examples", "serve", f"{name}.script")
         for agents in AGENTS * runs:
             # the sanitizer wants its memory at fixed places
             words = ["setarch", os.uname().machine, "-R", program, "serve", "--agents", str(agents)]
-            ended = subprocess.run(words, input=script, capture_output=True, text=True, env=options)
+            ended = played.done(words, script, env={**os.environ, "TSAN_OPTIONS": options})
             count += 1
-            if with_names and not found and REPORT in ended.stderr:
-                print(
-                    f"{name} with {agents} agents:"
-                    f" {REPORT}{ended.stderr.partition(REPORT)[2].partition('==================')[0]}"
-                )
-            found += ended.stderr.count(REPORT)
-            other += ended.returncode != 0 or not LAST.search(ended.stdout)
-            if REPORT not in ended.stderr and ended.stderr:
-                raise console.Stop(f"the program says: {console.tail(ended.stderr)}")
+            if with_names and not found and REPORT in ended.err:
+                told = ended.err.partition(REPORT)[2].partition("==================")[0]
+                print(f"{name} with {agents} agents: {REPORT}{told}")
+            found += ended.err.count(REPORT)
+            other += ended.status != 0 or not LAST.search(ended.out)
+            if REPORT not in ended.err and ended.err:
+                raise console.Stop(f"the program says: {console.tail(ended.err)}")
     return count, found, other
 
 
-def main() -> int:
-    read = console.words(__doc__)
-    read.add_argument("runs", nargs="?", type=int, default=2)
-    runs = read.parse_args().runs
+def looks(tally: played.Tally) -> None:
     program, control, calls = built()
-    begun = time.monotonic()
-    count, found, other = reports(program, runs, True)
-    print(
-        f"{count} runs with {AGENTS[0]} to {AGENTS[-1]} agents: {found} reports of a race,"
-        f" {other} that did not end certified;"
-        f" {time.monotonic() - begun:.1f} s",
-        flush=True,
-    )
-    begun = time.monotonic()
-    again, seen, _ = reports(control, runs, False)
-    print(f"control: {calls} calls of atomics weakened, {again} runs: {seen} reports; {time.monotonic() - begun:.1f} s")
-    return 1 if found or other or not seen else 0
+    count, found, other = reports(program, tally.given.runs, True)
+    tally.count = count
+    tally.fails(found and f"{found} reports of a race", other and f"{other} runs did not end certified")
+    again, seen, _ = reports(control, tally.given.runs, False)
+    tally.holds(seen, "the control has no report")
+    print(f"control: {calls} calls of atomics weakened, {again} runs: {seen} reports")
 
 
 if __name__ == "__main__":
-    console.run(main, "stopped")
+    played.plays(__doc__, f"runs with {AGENTS[0]} to {AGENTS[-1]} agents, and the control", looks, runs=2)

@@ -11,7 +11,6 @@ does.
 """
 import os
 import re
-import subprocess
 import tempfile
 
 import explored
@@ -19,24 +18,16 @@ import played
 from played import Tally
 from scripting import header, job
 
-from common import built, console, text_of, tool
+from common import built, text_of, tool
 
 ORDERS, MANY_ORDERS, MOST_WORLDS, NOT_ALL, WORDS = 2000, 10000, "400000", 7, 2
 STORY = os.path.join(explored.STORIES, "revocation.script")
 HEAD, LAST = re.compile(r"^way \d+\n", re.M), re.compile(r"^sampled (\d+) orders: (\d+) ways\n\Z", re.M)
 # Words that ask for nothing.
 WRONG = (
-    "--seed 1",
-    "--sample",
-    "--sample 0",
-    "--sample x",
-    "--sample -1",
-    "--sample 4294967296",
-    "--sample 5 --seed",
-    "--sample 5 --seed -1",
-    "--sample 5 --seed 18446744073709551616",
-    "--sample 5 --seed 1x",
-)
+    "--seed 1", "--sample", "--sample 0", "--sample x", "--sample -1", "--sample 4294967296", "--sample 5 --seed",
+    "--sample 5 --seed -1", "--sample 5 --seed 18446744073709551616", "--sample 5 --seed 1x",
+)  # fmt: skip
 # Allocations that are refused: so many first ones, and each so manieth of the others.
 FIRST, EVERY, LATEST = 60, 97, 4000
 
@@ -64,22 +55,20 @@ def compare(name: str, script: str, words: str, all_ways: list[tuple[str, ...]],
     return explored.explored(script, f"{asked} --seed 8")[1] != told
 
 
-def compare_kept(tally: Tally) -> int:
-    """Compares with the kept ways. Tells for how many scripts another seed told something else."""
-    return sum(compare(one.name, one.text, one.words, explored.read(one.ways), tally) for one in explored.kept())
-
-
-def compare_random(scripts: int, first: int, tally: Tally) -> int:
-    """Compares with the whole search for random scripts."""
-    seed, count, others = first, 0, 0
-    while count < scripts:
+def compare_all(tally: Tally) -> None:
+    """Compares with the kept ways, and with the whole search for random scripts. Another seed tells something else of
+    some.
+    """
+    others = sum(compare(one.name, one.text, one.words, explored.read(one.ways), tally) for one in explored.kept())
+    seed, left = tally.given.from_, tally.given.scripts
+    while left:
         script, words = explored.Explorable(seed).whole()
-        seed += 1
         status, told = explored.explored(script, f"{words} --worlds {MOST_WORLDS}")
         if status == 0:
-            count += 1
-            others += compare(f"seed {seed - 1}", script, words, explored.read(told), tally)
-    return others
+            left -= 1
+            others += compare(f"seed {seed}", script, words, explored.read(told), tally)
+        seed += 1
+    tally.holds(others > 0, "no other seed tells other ways")
 
 
 def many() -> str:
@@ -133,20 +122,16 @@ def tell_wrong(tally: Tally) -> None:
     """Wrong words and streams that fail."""
     script = text_of(STORY)
     for words in WRONG:
-        told = explored.explored(script, words)
-        tally.holds(told == (WORDS, "fault command line\n"), f"{words}: {told}")
-        done = subprocess.run([*tool("explore"), *words.split()], input=b"", capture_output=True, cwd=played.TOP)
-        tally.holds(done.returncode == WORDS and done.stdout == b"", f"./suites explore {words}: {done}")
+        tally.same(explored.explored(script, words), (WORDS, "fault command line\n"), words)
+        done = played.done([*tool("explore"), *words.split()], cwd=played.TOP)
+        tally.same(done[:2], (WORDS, ""), f"./suites explore {words}", done)
     least = explored.explored(script, "--sample 1 --seed 18446744073709551615")
     tally.holds(least[0] == NOT_ALL and least[1].endswith("sampled 1 orders: 1 ways\n"), f"the last seed: {least}")
-    missing = explored.explored(script, "--sample 1 --way 2")
-    tally.holds(missing == (WORDS, "sampled 1 orders: 1 ways\n"), f"way 2 of one: {missing}")
+    tally.same(explored.explored(script, "--sample 1 --way 2"), (WORDS, "sampled 1 orders: 1 ways\n"), "way 2 of one")
     words_of = [built.program(), "explore", "--sample", "5"]
     with open("/dev/full", "wb") as full:
-        done = subprocess.run(words_of, input=script.encode(), stdout=full, stderr=subprocess.DEVNULL)
-    tally.holds(done.returncode == 6, f"a full disk: status {done.returncode}")
-    closed = subprocess.run(["sh", "-c", '"$0" "$@" <&- 2> /dev/null', *words_of], stdout=subprocess.PIPE)
-    tally.holds(closed.returncode == 6, f"no input: status {closed.returncode}")
+        tally.same(played.done(words_of, script, stdout=full).status, 6, "a full disk")
+    tally.same(played.done(["sh", "-c", '"$0" "$@" <&-', *words_of]).status, 6, "no input")
 
 
 def ask(tally: Tally) -> None:
@@ -154,18 +139,15 @@ def ask(tally: Tally) -> None:
     questions = ("0.1 answered set and 1.0 answered", "0.1 denied", "0.1 answered or not 0.1 answered")
     words = [*tool("explore"), "--sample", "200", "--seed", "9", *(w for one in questions for w in ("--ask", one))]
     with open(STORY, "rb") as file:
-        done = subprocess.run(words, stdin=file, capture_output=True, cwd=played.TOP, text=True)
-    lines = done.stdout.splitlines()
-    kinds = [line.partition(":")[0] for line in lines if not line.startswith(" ")]
+        done = played.done(words, stdin=file, cwd=played.TOP)
+    kinds = [line.partition(":")[0] for line in done.out.splitlines() if not line.startswith(" ")]
     wanted = ["sometimes", "not found", "sometimes", "sampled 200 orders"]
-    tally.holds((done.returncode, kinds) == (NOT_ALL, wanted), f"asked is told {done.stdout}{done.stderr}")
-    shown = re.search(r"as in: \./suites (explore .*?) < (\S+)$", done.stdout, re.M)
-    tally.holds(bool(shown), f"no command is told: {done.stdout}")
+    tally.same((done.status, kinds), (NOT_ALL, wanted), "asked", done)
+    shown = re.search(r"as in: \./suites (explore .*?) < (\S+)$", done.out, re.M)
+    tally.holds(shown, f"no command is told: {done}")
     if shown:
-        name, *more = shown[1].split()
-        with open(os.path.join(played.TOP, shown[2]), "rb") as file:
-            told = subprocess.run([*tool(name), *more], stdin=file, capture_output=True, cwd=played.TOP)
-        outcomes = explored.without_steps(built.asked("play", told.stdout)[1].splitlines())
+        told = played.done(tool(*shown[1].split()), text_of(shown[2]), cwd=played.TOP).out
+        outcomes = explored.without_steps(built.asked("play", told)[1].splitlines())
         is_so = "0.1 answered set" in outcomes and any(line.startswith("1.0 answered") for line in outcomes)
         tally.holds(is_so, f"the script tells {outcomes}")
 
@@ -173,10 +155,10 @@ def ask(tally: Tally) -> None:
 def make_small(tally: Tally) -> None:
     """Of many events few are left, none of which can be dropped."""
     words = [*tool("explore"), "--sample", "30", "--seed", "2", "--ask", "5.0 undecided U2", "--small"]
-    done = subprocess.run(words, input=many(), capture_output=True, cwd=played.TOP, text=True)
-    lines = done.stdout.splitlines()
+    done = played.done(words, many(), cwd=played.TOP)
+    lines = done.out.splitlines()
     first = lines.index("run 0") + 1 if "run 0" in lines else len(lines)
-    tally.holds(done.returncode == 0 and 0 < len(lines) - first < 20, f"a small script is {done.stdout}{done.stderr}")
+    tally.holds(done.status == 0 and 0 < len(lines) - first < 20, f"a small script is {done}")
 
     def ending(left: list[str]) -> str:
         printed = built.asked("play", "\n".join([*left, ""]))[1]
@@ -186,21 +168,9 @@ def make_small(tally: Tally) -> None:
     tally.holds(wanted.startswith("5.0 undecided U2 "), f"in a small script job 5.0 ends so: {wanted}")
     for place in range(first, len(lines)):
         is_other = ending([*lines[:place], *lines[place + 1 :]]) != wanted
-        tally.holds(is_other, f"line {place + 1} could be dropped of {done.stdout}")
-
-
-def main() -> int:
-    given, tally = played.words(__doc__, scripts=50, from_=0), Tally()
-    others = compare_kept(tally) + compare_random(given.scripts, given.from_, tally)
-    tally.holds(others > 0, "no other seed tells other ways")
-    play_many(tally)
-    crash_each(tally)
-    refuse(tally)
-    tell_wrong(tally)
-    ask(tally)
-    make_small(tally)
-    return tally.told("answers of sampled orders compared")
+        tally.holds(is_other, f"line {place + 1} could be dropped of {done.out}")
 
 
 if __name__ == "__main__":
-    console.run(main, "stopped")
+    played.plays(__doc__, "answers of sampled orders compared", compare_all, play_many, crash_each, refuse, tell_wrong,
+                 ask, make_small, scripts=50, from_=0)  # fmt: skip

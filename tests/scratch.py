@@ -14,10 +14,10 @@ import sys
 import tempfile
 import typing
 
-from played import TOP
+from played import TOP, put
 
 import take
-from common import console, crates, of_kit
+from common import crates, of_kit
 
 BUILD = "import sys; from front import trial; trial.build(sys.argv[1], lambda: None, sys.argv[2])"
 
@@ -80,21 +80,16 @@ def built(program: str, direct: list[str], modules: typing.Sequence[str] = ()) -
     print(f"building {program}, some minutes", file=sys.stderr)
     os.makedirs(os.path.dirname(target), exist_ok=True)
     with tempfile.TemporaryDirectory(prefix="suites-") as copy:
-        shutil.copytree(os.path.join(TOP, "tools"), os.path.join(copy, "tools"))
         placed(copy, program, direct, sources)
-        environment = {**os.environ, "PYTHONPATH": os.path.join(copy, "tools")}
-        done = subprocess.run([sys.executable, "-c", BUILD, target, program], env=environment, stdin=subprocess.DEVNULL)
-    if done.returncode != 0:
-        sys.exit(f"{program} was not built")
-    with open(mark, "w", encoding="utf-8") as file:
-        file.write(wanted)
+        build(copy, program, target)
+    put(mark, wanted)
     return target
 
 
-def cases_and_seed(doc: str, cases: int, seed: int = 1) -> tuple[int, int]:
-    """The words of a test whose program tries cases that are drawn by chance: how many, and the seed."""
-    read = console.words(doc)
-    read.add_argument("cases", nargs="?", type=int, default=cases)
-    read.add_argument("seed", nargs="?", type=int, default=seed)
-    given = read.parse_args()
-    return given.cases, given.seed
+def build(copy: str, program: str, target: str) -> None:
+    """Builds a program of a copy, unproved, by the tools, which are put there."""
+    shutil.copytree(os.path.join(TOP, "tools"), os.path.join(copy, "tools"))
+    environment = {**os.environ, "PYTHONPATH": os.path.join(copy, "tools")}
+    done = subprocess.run([sys.executable, "-c", BUILD, target, program], env=environment, stdin=subprocess.DEVNULL)
+    if done.returncode != 0:
+        sys.exit(f"{program} was not built")

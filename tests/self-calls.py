@@ -14,7 +14,7 @@ import typing
 import played
 from played import Tally
 
-from common import console, functions, text_of
+from common import functions, text_of
 from front import sources
 
 # The functions that may call themselves: by crate, type (where it has one) and name, with why they are not deep.
@@ -153,12 +153,10 @@ SAMPLE = {name: text_of("tests", "samples", f"{name}.txt") for name in ("one.rt"
 FOUND = ["sample Walk::walk", "sample back", "sample own", "sample through"]
 
 
-def main() -> int:
-    console.words(__doc__).parse_args()
-    tally, found, count = Tally(), list[str](), 0
-    sample = Crate("sample", SAMPLE)
-    tally.holds(sample.in_circles() == FOUND, f"of the sample are found {sample.in_circles()}")
-    tally.holds(sample.hold_themselves() == ["sample Tree"], f"of the sample are found {sample.hold_themselves()}")
+def looks(tally: Tally) -> None:
+    sample, found, count = Crate("sample", SAMPLE), list[str](), 0
+    tally.same(sample.in_circles(), FOUND, "of the sample are found")
+    tally.same(sample.hold_themselves(), ["sample Tree"], "of the sample are found")
     for crate in crates():
         count += len(crate.functions)
         found += crate.in_circles()
@@ -169,8 +167,7 @@ def main() -> int:
         tally.holds(one in found, f"{one} calls itself no more, and stands in the table of tests/self-calls.py")
     tally.holds(count >= FEWEST, f"only {count} functions are found")
     tally.count += count
-    return tally.told("functions and types looked at")
 
 
 if __name__ == "__main__":
-    console.run(main, "stopped")
+    played.plays(__doc__, "functions and types looked at", looks)

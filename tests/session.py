@@ -12,7 +12,6 @@ import random
 import resource
 import signal
 import subprocess
-import sys
 import tempfile
 import threading
 import time
@@ -380,9 +379,8 @@ def tells_stories(path: str, tally: Tally, folder: str) -> None:
     tally.holds(rooms == [standing.of_room((5, 3)), standing.of_room((2, 0))], "full", rooms)
 
 
-def main() -> int:
-    given = played.words(__doc__, "program", long=False)
-    path, tally = played.program(given.program), Tally(most=20, width=600)
+def sessions(tally: Tally) -> None:
+    path, is_long = tally.program, tally.given.long
     setattr(built, "program", lambda: path)
     with tempfile.TemporaryDirectory(prefix="suites-") as folder:
         standing.stands(path, tally)
@@ -391,10 +389,9 @@ def main() -> int:
             closes_its_end,
         ):  # fmt: skip
             part(path, tally, folder)
-        is_killed(path, tally, folder, 200 if given.long else 20)
-        grows(path, tally, 10_000_000 if given.long else 200_000)
-    return tally.told("answers of sessions")
+        is_killed(path, tally, folder, 200 if is_long else 20)
+        grows(path, tally, 10_000_000 if is_long else 200_000)
 
 
 if __name__ == "__main__":
-    sys.exit(main())
+    played.plays(__doc__, "answers of sessions", sessions, program=None, long=False, most=20, width=600)

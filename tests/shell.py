@@ -151,19 +151,14 @@ def on_terminals(tally: played.Tally) -> None:
         again.type("quit\n")
         tally.holds(again.ended() == 0, "quit ends it")
     # that its programs are checked builds is told once a day, where no terminal is
-    subprocess.run(tool("shell", *own_session()), input=b"", capture_output=True)
-    env = {**os.environ, "TERM": "xterm"}
-    done = subprocess.run(tool("shell", *own_session()), input=b"cat /no\n", capture_output=True, env=env)
-    told = b"root> cat /no\nNo such file or folder (refused F4 op 1)\n"
-    tally.holds((done.stdout, done.stderr) == (told, b""), "no terminal", done.stdout, done.stderr)
+    played.done(tool("shell", *own_session()))
+    done = played.done(tool("shell", *own_session()), "cat /no\n", env={**os.environ, "TERM": "xterm"})
+    tally.same(done[1:], ("root> cat /no\nNo such file or folder (refused F4 op 1)\n", ""), "no terminal")
 
 
 def shell(story: str, *words: str) -> list[str]:
-    done = subprocess.run(
-        tool("shell", *own_session(), *words), input=story, stdout=subprocess.PIPE, stderr=subprocess.STDOUT,
-        text=True,
-    )
-    return done.stdout.splitlines()
+    told = played.done(tool("shell", *own_session(), *words), story, stderr=subprocess.STDOUT)
+    return told.out.splitlines()
 
 
 def tells_stories(tally: played.Tally) -> None:
@@ -184,15 +179,15 @@ def tells_stories(tally: played.Tally) -> None:
         tally.holds("hello" in told, "a script that was saved is played", told)
         shell(f"as root:0\nput /f hello\nuser late 7\nrow /f\nsave {room}/late\n")
         with open(f"{room}/late", "rb") as file:
-            done = subprocess.run([played.program(), "play"], stdin=file, stdout=subprocess.PIPE)
-        tally.holds(done.stdout == b"0.0 10 answered made 1; wrote\n", "a saved script, with a late name", done.stdout)
+            done = played.done([played.program(), "play"], stdin=file)
+        tally.same(done.out, "0.0 10 answered made 1; wrote\n", "a saved script, with a late name")
 
 
-def changes_lists(tally: played.Tally) -> None:
+def changes_lists(tally: played.Tally) -> bool | None:
     """Changes of lists against setfacl."""
     if not shutil.which("setfacl"):
         print("lists skipped: no setfacl")
-        return
+        return False
     dice = random.Random(5)
     with tempfile.TemporaryDirectory(prefix="suites-", dir=mounted.PLACE) as room:
         for number in range(60):
@@ -218,11 +213,11 @@ def changes_lists(tally: played.Tally) -> None:
                 theirs = lists.read(",".join(read))
                 tally.holds(sorted(ours.access) == sorted(theirs.access), change, ours.text(), theirs.text())
                 tally.holds(sorted(ours.default) == sorted(theirs.default), change, ours.text(), theirs.text())
+    return None
 
 
-def imported(folder: str, *words: str) -> tuple[int, str, str]:
-    done = subprocess.run(tool("import", folder, *words), capture_output=True, text=True)
-    return done.returncode, done.stdout, done.stderr
+def imported(folder: str, *words: str) -> played.Done:
+    return played.done(tool("import", folder, *words))
 
 
 def dumped(room: str, script: str) -> str:
@@ -265,18 +260,15 @@ def reads_trees(tally: played.Tally) -> None:
         tally.holds("folder /x/y/a/b/c 777" in again and "link" not in again, "a tree below a path", again[:300])
 
 
-def main() -> int:
-    tally = played.Tally(width=2000)
-    changes_lists(tally)
-    on_terminals(tally)
-    tells_stories(tally)
+def on_mounts(tally: played.Tally) -> bool:
     if not mounted.skipped():
         reads_trees(tally)
         if shutil.which("setpriv") and shutil.which("setfacl"):
-            done = subprocess.run([MOUNTED], stdout=subprocess.PIPE, stderr=subprocess.STDOUT, text=True)
-            tally.holds(done.stdout == TOLD, "the story of the mount", done.stdout)
-    return tally.told("answers of the shell")
+            done = played.done([MOUNTED], stderr=subprocess.STDOUT)
+            tally.same(done.out, TOLD, "the story of the mount")
+    return False
 
 
 if __name__ == "__main__":
-    sys.exit(main())
+    parts = (changes_lists, on_terminals, tells_stories, on_mounts)
+    played.plays(__doc__, "answers of the shell", *parts, width=2000)

@@ -11,7 +11,6 @@ import json
 import os
 import re
 import shutil
-import subprocess
 import sys
 import tempfile
 
@@ -43,18 +42,20 @@ NAMED = 'a"<img/src=x/onerror=alert(3)>'
 class Pages:
     """Pages of scripts, in a folder, which a browser opens."""
 
-    def __init__(self, driver: browser.Browser, folder: str) -> None:
-        self.driver, self.folder, self.count = driver, folder, 0
+    def __init__(self, driver: browser.Browser, folder: str, shots: str) -> None:
+        self.driver, self.folder, self.shots, self.count = driver, folder, shots, 0
 
     def open(self, script: str) -> int:
         """Opens the page of a script; answers how many bytes it has."""
         events = show.events_of(script.encode())
         self.count += 1
-        path = os.path.join(self.folder, f"{self.count}.html")
-        with open(path, "w", encoding="utf-8") as file:
-            size = file.write(show.page_of(script.encode(), show.Shown(events)))
-        self.driver.open(path)
-        return size
+        page = show.page_of(script.encode(), show.Shown(events))
+        self.driver.open(played.put(os.path.join(self.folder, f"{self.count}.html"), page))
+        return len(page)
+
+    def shot(self, name: str) -> None:
+        if self.shots:
+            self.driver.shot(os.path.join(self.shots, f"{name}.png"))
 
     def seen(self) -> dict:
         return self.driver.value(SEEN)
@@ -100,35 +101,26 @@ def printed(lines: list[str]) -> list[str]:
     return [line for line in lines if line[:1].isdigit() or line.startswith(("audit ", "t "))]
 
 
-def models(tally: Tally) -> None:
-    """The world behind the last event, as the model comes to it, is the one that the program tells at the end."""
-    node = shutil.which("node")
-    if not node:
-        return
+def models(tally: Tally) -> bool:
+    """The world behind the last event, as the model comes to it, is the one that the program tells at the end; and the
+    worlds of a part of a run, from a line in the middle of the script on, are those of the whole.
+    """
     scripts = {**played.stories(), **{f"seed {seed}": scenario.Scenario(seed, 200).script() for seed in range(16)}}
-    for name, script in scripts.items():
-        given = json.dumps(dataclasses.asdict(show.Shown(show.events_of(script.encode()))))
-        done = modelled(node, given)
-        tally.holds(done.stdout.strip() == "[]", "model", name, done.stdout.strip() or done.stderr[-300:])
-        parts(tally, node, name, script)
+    for name, script in scripts.items() if shutil.which("node") else ():
+        modelled(tally, name, dataclasses.asdict(show.Shown(show.events_of(script.encode()))))
+        whole, middle = show.shown_of(script.encode(), 0, sys.maxsize), script.count("\n") * 2 // 3
+        part, cut = (show.shown_of(script.encode(), middle, last) for last in (sys.maxsize, middle))
+        modelled(tally, name, {"whole": whole.events, "part": part.events, "before": part.before})
+        tally.holds(len(part.events) < len(whole.events), "a part is shorter", name)
+        tally.holds(cut.events == part.events[:len(cut.events)], "a part that ends early", name)
+        tally.holds(len(cut.events) < len(part.events), "it ends early", name)
+    return False
 
 
-def modelled(node: str, given: str) -> subprocess.CompletedProcess:
-    words = [node, os.path.join(played.TOP, "tests", "model.js"), os.path.join(show.PARTS, "model.js")]
-    return subprocess.run(words, input=given, capture_output=True, text=True, check=False)
-
-
-def parts(tally: Tally, node: str, name: str, script: str) -> None:
-    """The worlds of a part of a run, from a line in the middle of the script on."""
-    whole, middle = show.shown_of(script.encode(), 0, sys.maxsize), script.count("\n") * 2 // 3
-    part = show.shown_of(script.encode(), middle, sys.maxsize)
-    given = json.dumps({"whole": whole.events, "part": part.events, "before": part.before})
-    done = modelled(node, given)
-    tally.holds(done.stdout.strip() == "[]", "part", name, middle, done.stdout.strip() or done.stderr[-300:])
-    tally.holds(len(part.events) < len(whole.events), "a part is shorter", name)
-    cut = show.shown_of(script.encode(), middle, middle)
-    tally.holds(cut.events == part.events[:len(cut.events)], "a part that ends early", name)
-    tally.holds(len(cut.events) < len(part.events), "it ends early", name)
+def modelled(tally: Tally, name: str, given: dict) -> None:
+    words = ["node", os.path.join(played.TOP, "tests", "model.js"), os.path.join(show.PARTS, "model.js")]
+    done = played.done(words, json.dumps(given).encode())
+    tally.same(done.out.strip(), "[]", "model", name, done.err[-300:])
 
 
 def refused(tally: Tally) -> None:
@@ -144,7 +136,7 @@ def refused(tally: Tally) -> None:
     show.MOST_EVENTS = most
 
 
-def whole(tally: Tally, pages: Pages, shots: str) -> None:
+def whole(tally: Tally, pages: Pages) -> None:
     """Each story, stepped by keys to its end: servers, copies, locks, what agents gathered and keep, and what
     `play` prints.
     """
@@ -160,8 +152,8 @@ def whole(tally: Tally, pages: Pages, shots: str) -> None:
             pages.driver.press("ArrowRight", place - pages.seen()["here"])
             seen = pages.seen()
             tally.holds(seen["here"] == place, name, "keys lead to", place, seen["here"])
-            if shots and name in SHOT:
-                pages.driver.shot(os.path.join(shots, f"{name}-{place}.png"))
+            if name in SHOT:
+                pages.shot(f"{name}-{place}")
             told = agents_at(events, place)
             tally.holds(seen["agents"] == told, name, "agents", place, seen["agents"], told)
         tally.holds(seen["servers"] == ended(lines), name, "servers", seen["servers"], ended(lines))
@@ -249,7 +241,7 @@ def large(requests: int) -> str:
     return script_of(*lines, servers=5, agents=3, votes="1,1,1,1,1/3/3")
 
 
-def many(tally: Tally, pages: Pages, shots: str) -> None:
+def many(tally: Tally, pages: Pages) -> None:
     """Large runs: a step takes no longer than a picture of a film, of processor time."""
     for count in (300, 2000):
         size = pages.open(large(count))
@@ -262,24 +254,17 @@ def many(tally: Tally, pages: Pages, shots: str) -> None:
         rows = pages.driver.value("document.querySelectorAll('.row').length")
         tally.holds(rows < 100, "rows that nobody looks at are drawn", rows)
         print(f"{last} events: {size:,} bytes, {took:.1f} ms a step", flush=True)
-        for at in (last // 4, last // 2, last) if shots else ():
+        for at in (last // 4, last // 2, last):
             pages.driver.value(f"Page.go({at})")
-            pages.driver.shot(os.path.join(shots, f"many-{count}-{at}.png"))
+            pages.shot(f"many-{count}-{at}")
 
 
-def main() -> int:
-    tally, shots = Tally(most=20, width=600), browser.shots(__doc__)
-    models(tally)
-    refused(tally)
+def pages_shown(tally: Tally) -> bool:
     with browser.opened(tally) as driver, tempfile.TemporaryDirectory() as folder:
-        if driver:
-            pages = Pages(driver, folder)
-            whole(tally, pages, shots)
-            for part in (hostile, hands):
-                part(tally, pages)
-            many(tally, pages, shots)
-    return tally.told("looked at")
+        for part in (whole, hostile, hands, many) if driver else ():
+            part(tally, Pages(driver, folder, tally.given.shots))
+    return False
 
 
 if __name__ == "__main__":
-    sys.exit(main())
+    played.plays(__doc__, "looked at", models, refused, pages_shown, most=20, width=600, shots="")

@@ -8,58 +8,51 @@ without an end. Prints each end that is another; status 1 where one is.
 """
 import os
 import subprocess
-import sys
 
 import played
 from scripting import header, job
-
-from common import built
 
 RUN = (header(1, 1, "1/1/1", "1 1 777") + job("list /", who="1 1")).encode()
 LONG = b"#" * (16 * 1024 * 1024 + 1)
 MOST, HEAD = 128 * 1024 * 1024, b"root 1 1 755\n#"
 # A command, its words, its input, its status, and what its output begins with.
-ENDS: tuple[tuple[str, str, bytes, int, bytes], ...] = (
-    ("trace", "", RUN, 0, b"> begin 0"),
-    ("trace", "--json", RUN, 0, b'{"event":0'),
-    ("trace", "x", RUN, 2, b"fault command line\n"),
-    ("trace", "", RUN + b"no\n", 3, b"fault line 8: S1\n"),
-    ("trace", "", LONG, 6, b""),
-    ("forms", "", b"", 0, b"place\t"),
-    ("forms", "play 8", RUN + b"no\n", 0, b"1\tS1\t"),
-    ("forms", "play 8 9", b"", 2, b"fault command line\n"),
-    ("forms", "x", b"", 2, b"fault command line\n"),
-    ("forms", "play 1", LONG, 6, b""),
+ENDS: tuple[tuple[str, str, bytes, int, str], ...] = (
+    ("trace", "", RUN, 0, "> begin 0"),
+    ("trace", "--json", RUN, 0, '{"event":0'),
+    ("trace", "x", RUN, 2, "fault command line\n"),
+    ("trace", "", RUN + b"no\n", 3, "fault line 8: S1\n"),
+    ("trace", "", LONG, 6, ""),
+    ("forms", "", b"", 0, "place\t"),
+    ("forms", "play 8", RUN + b"no\n", 0, "1\tS1\t"),
+    ("forms", "play 8 9", b"", 2, "fault command line\n"),
+    ("forms", "x", b"", 2, "fault command line\n"),
+    ("forms", "play 1", LONG, 6, ""),
 )
 
 
 def long_histories(tally: played.Tally) -> None:
     """A history of as many bytes as there may be, and longer ones."""
-    whole = HEAD + b"x" * (MOST - len(HEAD))
-    for given, status, said in ((whole, 0, b"one table: 0 calls\n"), (whole + b"x", 6, b"")):
-        done = subprocess.run([built.program(), "judge"], input=given, capture_output=True, check=False)
-        tally.holds((done.returncode, done.stdout) == (status, said), "judge", len(given), done)
-    for path in (built.program(), os.path.join(played.TOP, "suites")):
+    whole, program = HEAD + b"x" * (MOST - len(HEAD)), tally.program
+    for given, wanted in ((whole, (0, "one table: 0 calls\n")), (whole + b"x", (6, ""))):
+        tally.same(played.done([program, "judge"], given)[:2], wanted, "judge", len(given))
+    for path in (program, os.path.join(played.TOP, "suites")):
         with subprocess.Popen(["yes", "#"], stdout=subprocess.PIPE) as endless:
-            done = subprocess.run([path, "judge"], stdin=endless.stdout, capture_output=True, check=False, timeout=600)
+            done = played.done([path, "judge"], stdin=endless.stdout, timeout=600)
             endless.kill()
-        tally.holds((done.returncode, done.stdout) == (6, b""), path, "without an end", done)
-        tally.holds(path == built.program() or b"above 128 MiB" in done.stderr, path, "does not say why", done.stderr)
+        tally.same(done[:2], (6, ""), path, "without an end")
+        tally.holds(path == program or "above 128 MiB" in done.err, path, "does not say why", done.err)
 
 
-def main() -> int:
-    tally = played.Tally()
-    long_histories(tally)
+def ends(tally: played.Tally) -> None:
     for name, words, given, status, begins in ENDS:
-        done = subprocess.run([built.program(), name, *words.split()], input=given, capture_output=True, check=False)
-        is_so = done.returncode == status and done.stdout.startswith(begins) and (begins or not done.stdout)
-        tally.holds(is_so, name, words, done.returncode, done.stdout[:60], "and not", status, begins)
+        asked = [tally.program, name, *words.split()]
+        done = played.done(asked, given)
+        is_so = done.status == status and done.out.startswith(begins) and (begins or not done.out)
+        tally.holds(is_so, name, words, done.status, done.out[:60], "and not", status, begins)
         if status == 0:
             with open("/dev/full", "wb") as full:
-                done = subprocess.run([built.program(), name, *words.split()], input=given, stdout=full, check=False)
-            tally.holds(done.returncode == 6, name, words, "a write that fails", done.returncode)
-    return tally.told("ends of programs")
+                tally.same(played.done(asked, given, stdout=full).status, 6, name, words, "a write that fails")
 
 
 if __name__ == "__main__":
-    sys.exit(main())
+    played.plays(__doc__, "ends of programs", long_histories, ends)

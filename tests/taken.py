@@ -8,7 +8,6 @@ is another one has to be refused. Prints what differs; status 1 where something 
 """
 import os
 import re
-import subprocess
 import sys
 import tempfile
 import typing
@@ -42,27 +41,26 @@ PLAYS = Program(
 )
 
 
-def take(folder: str, direct: str) -> subprocess.CompletedProcess[str]:
-    words = [sys.executable, os.path.join(played.TOP, "tools", "take.py"), "--into", folder, *direct.split()]
-    return subprocess.run(words, capture_output=True, text=True, check=False)
+def take(folder: str, direct: str) -> played.Done:
+    tool = os.path.join(played.TOP, "tools", "take.py")
+    return played.done([sys.executable, tool, "--into", folder, *direct.split()])
 
 
 def tried(tally: played.Tally, program: Program, folder: str) -> None:
     """Takes the crates, puts the program beside them, and looks at what it prints."""
     done = take(folder, program.direct)
-    tally.holds(done.stdout.startswith(f"{program.taken} crates taken: "), program.name, done.stdout, done.stderr)
+    tally.holds(done.out.startswith(f"{program.taken} crates taken: "), program.name, done)
     crate = os.path.join(folder, "crates", program.name)
     os.makedirs(os.path.join(crate, "src"))
     played.put(os.path.join(crate, "src", "main.rt"), text_of(PROGRAMS, f"{program.name}.rt.txt"))
     with open(os.path.join(folder, "crates.txt"), "a", encoding="utf-8") as file:
         file.write(f"{program.name}: {program.direct}\n")
-    given = subprocess.DEVNULL
-    done = subprocess.run(["rt", "try"], cwd=crate, stdin=given, capture_output=True, text=True, check=False)
-    tally.holds(program.printed in done.stdout, program.name, done.stdout[-600:], done.stderr[-1500:])
-    tally.holds(take(folder, program.direct).stdout == "all of them are there\n", program.name, "taken twice")
+    done = played.done(["rt", "try"], cwd=crate)
+    tally.holds(program.printed in done.out, program.name, done.out[-600:], done.err[-1500:])
+    tally.same(take(folder, program.direct).out, "all of them are there\n", program.name, "taken twice")
     with open(os.path.join(folder, "crates", "vote_core", "src", "lib.rt"), "a", encoding="utf-8") as file:
         file.write("// another one\n")
-    tally.holds(take(folder, program.direct).returncode == 1, program.name, "another crate is taken for this one")
+    tally.same(take(folder, program.direct).status, 1, program.name, "another crate is taken for this one")
 
 
 def as_told(tally: played.Tally, program: Program, page: str, folder: str) -> None:
@@ -71,21 +69,18 @@ def as_told(tally: played.Tally, program: Program, page: str, folder: str) -> No
     lines = next((block for block in blocks if "take.py" in block), "")
     tally.holds(f"tests/programs/{program.name}.rt.txt" in lines, "docs/LIBRARY.md does not take", program.name)
     tally.holds(program.printed in blocks, "docs/LIBRARY.md does not show what is printed:", program.printed)
-    words, given = ["sh", "-ec", lines.replace(MINE, folder)], subprocess.DEVNULL
-    done = subprocess.run(words, cwd=played.TOP, stdin=given, capture_output=True, text=True, check=False)
-    tally.holds(done.stdout.startswith(f"{program.taken} crates taken: "), program.name, done.stdout, done.stderr)
-    tally.holds(program.printed in done.stdout, program.name, done.stdout[-600:], done.stderr[-1500:])
+    done = played.done(["sh", "-ec", lines.replace(MINE, folder)], cwd=played.TOP)
+    tally.holds(done.out.startswith(f"{program.taken} crates taken: "), program.name, done)
+    tally.holds(program.printed in done.out, program.name, done.out[-600:], done.err[-1500:])
 
 
-def main() -> int:
-    tally = played.Tally(width=2000)
+def takes(tally: played.Tally) -> None:
     page = text_of("docs", "LIBRARY.md")
     tally.holds(f"tests/programs/{PLAYS.name}.rt.txt" in page, "docs/LIBRARY.md does not name", PLAYS.name)
     with tempfile.TemporaryDirectory(prefix="suites-") as folder:
         as_told(tally, ASKS, page, os.path.join(folder, "mine"))
         tried(tally, PLAYS, os.path.join(folder, "other"))
-    return tally.told("things")
 
 
 if __name__ == "__main__":
-    sys.exit(main())
+    played.plays(__doc__, "things", takes, width=2000)

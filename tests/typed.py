@@ -8,8 +8,6 @@ CODE`, those that take an hour or are the tests themselves, those that go on unt
 whose status is that of the build. Prints each that differs or does not end; status 1 where one does.
 """
 import re
-import subprocess
-import sys
 import tempfile
 import typing
 
@@ -26,8 +24,8 @@ FILLED_IN = re.compile(r"(?<![\w/])(?:[A-Z]{2,}|[A-Z])(?!\w)|\[|\.\.\.|< \.\.")
 # So many command lines at least are shown, so that a change of the form of documents is told.
 FEWEST = 12
 LEFT_OUT = ("./suites --prove", "./suites --test", "./suites --is-fresh", "./suites show --live", ".ci/run")
-# What a command that has not ended after so many seconds ends with.
-PATIENCE, NOT_ENDED = 600, 124
+# So many seconds a command may take.
+PATIENCE = "600"
 
 
 def of_block(number: int, block: list[bytes]) -> list[tuple[int, str, str | None]]:
@@ -66,30 +64,16 @@ def put_into(folder: str, command: str) -> str:
     return re.sub(r" > (\w\S*)", rf" > {folder}/\1", command)
 
 
-def main() -> int:
+def types(tally: played.Tally) -> None:
+    """Types all command lines; what they write is put into a folder."""
+    shown_there = [(document, *one) for document in DOCUMENTS for one in commands(document) if is_typed(one[1])]
     with tempfile.TemporaryDirectory(prefix="suites-") as folder:
-        return typed(folder)
-
-
-def typed(folder: str) -> int:
-    """Types all command lines; what they write is put into this folder."""
-    tally = played.Tally()
-    for document in DOCUMENTS:
-        for number, command, wanted in commands(document):
-            if not is_typed(command):
-                continue
-            words = ["timeout", str(PATIENCE), "sh", "-c", put_into(folder, command)]
-            done = subprocess.run(words, cwd=played.TOP, stdin=subprocess.DEVNULL, capture_output=True)
-            printed = done.stdout.decode("latin1")
-            tally.holds(
-                done.returncode == status_of(wanted) and wanted in (None, printed),
-                f"{document}:{number}: {command} ends with {done.returncode} ({NOT_ENDED} where it did not end) and"
-                f" prints\n{printed}{done.stderr.decode('latin1')}",
-            )
-    if tally.count < FEWEST:
-        tally.holds(False, f"of at least {FEWEST} command lines {tally.count} were found")
-    return tally.told("command lines")
+        for document, number, command, wanted in shown_there:
+            done = played.done(["timeout", PATIENCE, "sh", "-c", put_into(folder, command)], cwd=played.TOP)
+            is_so = done.status == status_of(wanted) and wanted in (None, done.out)
+            tally.holds(is_so, f"{document}:{number}", command, "124 is the status of what does not end", done)
+    tally.holds(tally.count >= FEWEST, f"of at least {FEWEST} command lines {tally.count} were found")
 
 
 if __name__ == "__main__":
-    sys.exit(main())
+    played.plays(__doc__, "command lines", types)

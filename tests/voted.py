@@ -1,11 +1,8 @@
 """What `./suites votes` tells, as tests read it, and votes that are drawn by chance."""
-import argparse
 import collections
 import os
 import random
 import re
-import subprocess
-import typing
 
 import played
 
@@ -15,8 +12,6 @@ SECTION = re.compile(
     r"(read|write|read and write): \d+ of \d+ votes\n    may be lost +(.*)\n    stopped by +([^:]*)\n    blocked"
     r" +(.*)\n    U5 at first +(.*)\n"
 )
-# A check of a test, given its words, chance, and what counts.
-Check = typing.Callable[[argparse.Namespace, random.Random, played.Tally], None]
 Told = collections.namedtuple("Told", "lost sets more blocked ends_u5")
 
 
@@ -52,21 +47,6 @@ def random_word(servers: int, dice: random.Random) -> str:
     return f"{','.join(fields)}/{dice.randint(total - w + 1, total)}/{w}"
 
 
-def run_tool(words: typing.Sequence[str]) -> subprocess.CompletedProcess[str]:
+def run_tool(*words: str) -> played.Done:
     """The tool, with these words, as a user runs it."""
-    suites = [os.path.join(played.TOP, "suites"), "votes", *words]
-    return subprocess.run(suites, stdout=subprocess.PIPE, stderr=subprocess.DEVNULL, text=True)
-
-
-def run_checks(doc: str, checks: dict[str, Check], **options: typing.Any) -> int:
-    """The checks of a test, which takes a seed and the program as words. Prints how much each compared and what
-    differs; the status is 1 where something does, or nothing was compared.
-    """
-    given = played.words(doc, "program", seed=1, **options)
-    given.program = played.program(given.program)
-    dice, status = random.Random(given.seed), 0
-    for what, check in checks.items():
-        tally = played.Tally(most=10)
-        check(given, dice, tally)
-        status |= tally.told(what)
-    return status
+    return played.done([os.path.join(played.TOP, "suites"), "votes", *words])

@@ -2,17 +2,14 @@
 """tests/votes-left.py [--seed SEED] [PROGRAM]
 
 Compares what `./suites votes --script` and `--of` tell with what `play` answers, as its checks say. Which votes a
-script leaves wants the program of `./suites trace`. The program is the one that `./suites` runs, or the one that is
-named. Status 1 where something differs. `./suites --test` runs it.
+script leaves wants the program of `./suites trace`. Status 1 where something differs.
 """
-import argparse
 import fractions
 import itertools
 import random
-import subprocess
-import sys
 import tempfile
 
+import played
 import voted
 from played import Tally
 from scripting import header, job
@@ -36,28 +33,25 @@ LEFT = [
 ]
 
 
-def told_of_script(script: str) -> subprocess.CompletedProcess[str]:
+def told_of_script(script: str) -> played.Done:
     """What the tool tells of a script, and its status."""
-    with tempfile.NamedTemporaryFile("w", suffix=".script", newline="") as file:
-        file.write(script)
-        file.flush()
-        words = tool("votes", "--script", file.name)
-        return subprocess.run(words, stdout=subprocess.PIPE, stderr=subprocess.DEVNULL, text=True)
+    with tempfile.NamedTemporaryFile(suffix=".script") as file:
+        return played.done(tool("votes", "--script", played.put(file.name, script)))
 
 
-def check_scripts(_: argparse.Namespace, __: random.Random, tally: Tally) -> None:
+def check_scripts(tally: Tally) -> None:
     """Scripts: which votes are told of which files, and for how many servers; and that a fault is told as `play` tells
     it.
     """
     faulty = told_of_script(OPENING.format(2) + MOVE.replace("1/3", "1/2"))
-    tally.same((faulty.returncode, faulty.stdout), (3, "fault line 8: V6\n"), "a faulty script")
+    tally.same(faulty[:2], (3, "fault line 8: V6\n"), "a faulty script")
     for script, word in LEFT:
         done = told_of_script(script)
         own = "votes 1,1,1/2/2 of /=suite 0" + (", /a=suite 1\n" if word == "1,1,1/2/2" else "\n")
         apart = "" if word == "1,1,1/2/2" else f"votes {word} of /a=suite 1\n"
         texts = filter(None, (own, apart))
         told = [text + "\n".join(votes.told(votes.votes_of(text.split()[1], 4), "0.99")) for text in texts]
-        is_so = done.returncode == 0 and all(text in done.stdout for text in told)
+        is_so = done.status == 0 and all(text in done.out for text in told)
         tally.holds(is_so, f"{script!r} leaves /a with {word}", done)
 
 
@@ -90,8 +84,9 @@ def searched(left: "votes.Left", down: frozenset[int]) -> str:
     return "answered read -"
 
 
-def check_moved(given: argparse.Namespace, dice: random.Random, tally: Tally) -> None:
+def check_moved(tally: Tally) -> None:
     """Votes that were moved: with each set of servers down a fresh agent's read ends as is told."""
+    dice = random.Random(tally.given.seed)
     for _ in range(12):
         script = moving(dice)
         left = votes.left_by(script.encode())
@@ -100,7 +95,7 @@ def check_moved(given: argparse.Namespace, dice: random.Random, tally: Tally) ->
         for down in sets:
             lines += [f"crash {server}\n" for server in down] + [job("read /a", 1) * 7]
             lines += [f"return {server}\n" for server in down]
-        printed = built.asked("play", "".join(lines), path=given.program)[1]
+        printed = built.asked("play", "".join(lines), path=tally.program)[1]
         ends = [line.split(" ", 2)[2] for line in printed.splitlines() if line.startswith("1.")]
         for place, down in enumerate(sets):
             # each server is the home once
@@ -108,7 +103,7 @@ def check_moved(given: argparse.Namespace, dice: random.Random, tally: Tally) ->
             tally.same(found, {searched(left, down)}, f"{script!r} with {set(down)} down")
 
 
-def check_shapes(given: argparse.Namespace, __: random.Random, tally: Tally) -> None:
+def check_shapes(tally: Tally) -> None:
     """Ways to share votes: how many requests a read and a write take, and that all else is what is told of these
     votes; and that the rules which faulty votes break are told with their numbers.
     """
@@ -117,21 +112,18 @@ def check_shapes(given: argparse.Namespace, __: random.Random, tally: Tally) -> 
             tell = voted.told(shape.word, servers, "0.99")
             own = [(lost, votes.chance_text(blocked)) for lost, blocked in zip(shape.lost, shape.blocked)]
             jobs = "".join(map(job, ("file /a 644", "write /a 6869", "read /a")))
-            printed = built.asked("play", header(servers, 1, shape.word) + jobs, path=given.program)[1]
+            printed = built.asked("play", header(servers, 1, shape.word) + jobs, path=tally.program)[1]
             _, write, read = (int(line.split()[1]) for line in printed.splitlines())
             found = [(tell[kind].lost, tell[kind].blocked) for kind in ("read", "write")], (read, write)
             tally.same((own, shape.requests), found, shape.word)
-    lines = voted.run_tool(["--of", "5", "--lose-read", "2", "--lose-write", "2"]).stdout.splitlines()
+    lines = voted.run_tool("--of", "5", "--lose-read", "2", "--lose-write", "2").out.splitlines()
     wanted = [["1,1,1,1,1/3/3", "15", "14", "2", "2"]]
     tally.same([line.split()[:5] for line in lines[4:5]], wanted, "of five servers that may lose two")
     for word, text in RULES.items():
-        told = voted.run_tool([word]).stdout
+        told = voted.run_tool(word).out
         tally.holds(told.split("\n")[2].startswith(text), f"of {word} the rule is not told", told)
 
 
-def main() -> int:
-    return voted.run_checks(__doc__, {"scripts": check_scripts, "searches": check_moved, "shapes": check_shapes})
-
-
 if __name__ == "__main__":
-    sys.exit(main())
+    checks = (check_scripts, check_moved, check_shapes)
+    played.plays(__doc__, "scripts, searches and shapes", *checks, program=None, seed=1, most=30)

@@ -2,12 +2,11 @@
 """tests/votes.py [--all] [--seed SEED] [PROGRAM]
 
 Compares what `./suites votes` tells with what `play` answers where servers are down, with Gifford's examples, and
-faulty words with the codes that `table` and `play` tell. The program is the one that `./suites` runs (a checked build
-where nothing is proved), or the one that is named. Votes of up to three servers are tried all, where a server is not
-listed or has up to two votes; others are chosen by chance, with SEED. With --all those of up to five servers are tried
-all. Status 1 where something differs. It takes half a minute, and with --all some five. `./suites --test` runs it.
+faulty words with the codes that `table` and `play` tell. PROGRAM is a build of the program. Votes of up to three
+servers are tried all, where a server is not listed or has up to two votes; others are chosen by chance, with SEED. With
+--all those of up to five servers are tried all. Status 1 where something differs. It takes half a minute, and with
+--all some five.
 """
-import argparse
 import collections
 import fractions
 import itertools
@@ -17,6 +16,7 @@ import re
 import sys
 import typing
 
+import played
 import voted
 from played import Tally
 from scripting import header, job
@@ -124,7 +124,7 @@ def found_anew(servers: int, ends: dict[frozenset[int], list[str]], up: fraction
     )
 
 
-def every_loss(program: str, servers: int, words: list[str], dice: random.Random, tally: Tally) -> None:
+def every_loss(servers: int, words: list[str], dice: random.Random, tally: Tally) -> None:
     """Compares all that is told of votes with runs in which every set of servers is down: a file with these votes is
     read and written as often in a row as there are servers, so that each of them is the home once.
     """
@@ -139,7 +139,7 @@ def every_loss(program: str, servers: int, words: list[str], dice: random.Random
     tells = [voted.told(word, servers, up) for word in words]
     ends: dict[tuple[int, str], dict[frozenset[int], list[str]]]
     ends = collections.defaultdict(lambda: collections.defaultdict(list))
-    for end in play.answers(program):
+    for end in play.answers(tally.program):
         ends[end.place, end.kind][end.down].append(end.how)
         tally.holds(not is_odd(end, servers, words[end.place]), words[end.place], end)
     for (place, kind), hows in ends.items():
@@ -147,7 +147,7 @@ def every_loss(program: str, servers: int, words: list[str], dice: random.Random
         tally.fails(told != found and f"{words[place]} of {servers} servers, {kind}: told {told}, found {found}")
 
 
-def told_losses(program: str, servers: int, word: str, dice: random.Random, tally: Tally) -> None:
+def told_losses(servers: int, word: str, dice: random.Random, tally: Tally) -> None:
     """Compares the sets that are told with runs in which these are down, and then all but one server of each; and how
     many servers may be lost with runs in which as many are down, any of them.
     """
@@ -166,7 +166,7 @@ def told_losses(program: str, servers: int, word: str, dice: random.Random, tall
                 wanted.append(is_blocked)
                 if is_last:
                     break
-    for end, is_blocked in zip(play.answers(program), wanted):
+    for end, is_blocked in zip(play.answers(tally.program), wanted):
         is_so = (end.how == "U1") == is_blocked and not is_odd(end, servers, word)
         tally.holds(is_so, f"{word} of {servers} servers", end)
 
@@ -193,7 +193,7 @@ STATUSES = {
 GIFFORD = {"1,0,0/1/1": ["1.0e-2", "1.0e-2"], "2,1,1/2/3": ["2.0e-4", "1.0e-2"], "1,1,1/1/3": ["1.0e-6", "3.0e-2"]}
 
 
-def check_examples(_: argparse.Namespace, __: random.Random, tally: Tally) -> None:
+def check_examples(tally: Tally) -> None:
     """The blocking probabilities of the paper's three examples; and the words of the command line."""
     for word, chances in GIFFORD.items():
         tell = voted.told(word, 3, "0.99")
@@ -205,15 +205,16 @@ def check_examples(_: argparse.Namespace, __: random.Random, tally: Tally) -> No
     for words, (servers, up) in lines.items():
         word = next(word for word in words.split() if "/" in word)
         told = "".join(f"{line}\n" for line in votes.told_of_word(word, servers, up))
-        tally.same(voted.run_tool(words.split()).stdout, told, words)
+        tally.same(voted.run_tool(*words.split()).out, told, words)
     for status, some in STATUSES.items():
         for words in some:
-            tally.same(voted.run_tool(words.split(" ") if words else []).returncode, status, words)
+            tally.same(voted.run_tool(*(words.split(" ") if words else [])).status, status, words)
 
 
-def check_losses(given: argparse.Namespace, dice: random.Random, tally: Tally) -> None:
+def check_losses(tally: Tally) -> None:
     """Votes against `play`."""
-    words = [(servers, list(all_words(servers))) for servers in range(1, 6 if given.all else 4)]
+    dice = random.Random(tally.given.seed)
+    words = [(servers, list(all_words(servers))) for servers in range(1, 6 if tally.given.all else 4)]
     words += [
         (servers, [voted.random_word(servers, dice) for _ in range(count)])
         for servers, count in ((4, 80), (5, 80), (6, 16), (7, 8), (8, 4))
@@ -221,10 +222,10 @@ def check_losses(given: argparse.Namespace, dice: random.Random, tally: Tally) -
     words.append((7, ["1,1,1,1,1,1,1/4/4", "2,1,1,1,1,1,1/4/5"]))
     for servers, some in words:
         for place in range(0, len(some), FILES):
-            every_loss(given.program, servers, some[place : place + FILES], dice, tally)
+            every_loss(servers, some[place : place + FILES], dice, tally)
     for _ in range(24):
         servers = dice.choice([9, 12, 16, 24, 32])
-        told_losses(given.program, servers, voted.random_word(servers, dice), dice, tally)
+        told_losses(servers, voted.random_word(servers, dice), dice, tally)
 
 
 # Words by their codes, which are those of the rules of scripts; `N:` before one says how many servers there are. The
@@ -252,14 +253,14 @@ FAULTS: dict[str, tuple[str, ...]] = {
 def code_told(word: str, servers: str) -> str:
     """The code that the tool tells, by its command line, where it explains it; nothing where it tells of votes."""
     words = [*(["--servers", servers] if servers else []), *(["--", word] if word.startswith("--") else [word])]
-    done = voted.run_tool(words)
-    if done.returncode == 0:
+    done = voted.run_tool(*words)
+    if done.status == 0:
         return ""
-    code = done.stdout.split("\n")[0].removeprefix("fault ")
+    code = done.out.split("\n")[0].removeprefix("fault ")
     told = explain.explained(code) if code != "S1" else votes.FORM
-    is_explained = done.returncode == 3 and re.fullmatch(rf"(?s)fault {code}\n\n.*{re.escape(told)}\n", done.stdout)
-    has_rule = code == "G1" or f"\n\n{votes.FORM}\n" in done.stdout and len(done.stdout.split("\n\n")[1]) > 10
-    return code if is_explained and has_rule else f"{code} with status {done.returncode}"
+    is_explained = done.status == 3 and re.fullmatch(rf"(?s)fault {code}\n\n.*{re.escape(told)}\n", done.out)
+    has_rule = code == "G1" or f"\n\n{votes.FORM}\n" in done.out and len(done.out.split("\n\n")[1]) > 10
+    return code if is_explained and has_rule else f"{code} with status {done.status}"
 
 
 def code_of_program(program: str, word: str, servers: int | None) -> str:
@@ -281,8 +282,9 @@ def spoiled(word: str, dice: random.Random) -> str:
     return word or "/"
 
 
-def check_faults(given: argparse.Namespace, dice: random.Random, tally: Tally) -> None:
+def check_faults(tally: Tally) -> None:
     """Faulty words: those whose code the rules say, and random ones against the program."""
+    dice = random.Random(tally.given.seed)
     for code, words in FAULTS.items():
         for word in words:
             count, _, bare = word.rpartition(":")
@@ -295,13 +297,9 @@ def check_faults(given: argparse.Namespace, dice: random.Random, tally: Tally) -
             found = ""
         except votes.Fault as fault:
             found = str(fault)
-        tally.same(found, code_of_program(given.program, word, servers), f"{word} with {servers} servers")
-
-
-def main() -> int:
-    checks = {"examples": check_examples, "tries of play": check_losses, "words": check_faults}
-    return voted.run_checks(__doc__, checks, all=False)
+        tally.same(found, code_of_program(tally.program, word, servers), f"{word} with {servers} servers")
 
 
 if __name__ == "__main__":
-    sys.exit(main())
+    checks = (check_examples, check_losses, check_faults)
+    played.plays(__doc__, "examples, tries of play and words", *checks, program=None, seed=1, all=False, most=30)

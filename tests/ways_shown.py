@@ -10,8 +10,6 @@ does. Without Chromium the page alone is looked at.
 import json
 import os
 import re
-import subprocess
-import sys
 import tempfile
 import typing
 
@@ -46,8 +44,7 @@ TREE = """[...document.querySelectorAll('[data-way]')].map((way) => {
 
 
 def explored(words: list[str], script: bytes) -> str:
-    done = subprocess.run([*EXPLORE, *words], input=script, stdout=subprocess.PIPE, stderr=subprocess.DEVNULL)
-    return done.stdout.decode()
+    return played.done([*EXPLORE, *words], script).out.encode("latin1").decode()
 
 
 def ways_in(told: str) -> dict[int, list[str]]:
@@ -110,7 +107,12 @@ def clicked(tally: Tally, driver: browser.Browser, name: str, told: str, answers
         tally.holds(sorted(marked) == wanted, name, text, "what is marked", marked, wanted)
 
 
-def pages(tally: Tally, driver: browser.Browser | None, folder: str, shots: str) -> None:
+def all_pages(tally: Tally) -> None:
+    with browser.opened(tally) as driver, tempfile.TemporaryDirectory() as folder:
+        pages(tally, driver, folder)
+
+
+def pages(tally: Tally, driver: browser.Browser | None, folder: str) -> None:
     for name, options, questions in SHOWN:
         script = played.stories("explore")[name].encode()
         asks = [word for question in questions for word in ("--ask", question)]
@@ -125,12 +127,10 @@ def pages(tally: Tally, driver: browser.Browser | None, folder: str, shots: str)
         if len(ways) < 10:
             runs(tally, name, options, script, data)
         if driver:
-            path = os.path.join(folder, f"{name}.html")
-            played.put(path, page)
-            driver.open(path)
+            driver.open(played.put(os.path.join(folder, f"{name}.html"), page))
             clicked(tally, driver, name, told, len(wanted))
-            if shots:
-                driver.shot(os.path.join(shots, f"ways-{name}.png"))
+            if tally.given.shots:
+                driver.shot(os.path.join(tally.given.shots, f"ways-{name}.png"))
 
 
 def large(tally: Tally) -> None:
@@ -147,19 +147,10 @@ def large(tally: Tally) -> None:
     tally.holds([one.get("command") for one in data[2:]] == [f"see {way}" for way in (3, 4, 5, 6)], "what is typed")
     ways_page.MOST_RUNS = most
     for words in (["--page", "--way", "1"], ["--page", "--ask", "7.0 answered"]):
-        done = subprocess.run([*EXPLORE, *words], input=script, capture_output=True)
-        tally.holds(done.returncode == 2 and not done.stdout, words, done.returncode)
-    done = subprocess.run([*EXPLORE, "--page"], input=script + b"nonsense\n", capture_output=True)
-    tally.holds((done.returncode, done.stdout[:6]) == (3, b"fault "), "a fault", done.returncode, done.stdout[:50])
-
-
-def main() -> int:
-    tally, shots = Tally(most=20, width=600), browser.shots(__doc__)
-    with browser.opened(tally) as driver, tempfile.TemporaryDirectory() as folder:
-        pages(tally, driver, folder, shots)
-    large(tally)
-    return tally.told("looked at")
+        tally.same(played.done([*EXPLORE, *words], script)[:2], (2, ""), words)
+    done = played.done([*EXPLORE, "--page"], script + b"nonsense\n")
+    tally.same((done.status, done.out[:6]), (3, "fault "), "a fault")
 
 
 if __name__ == "__main__":
-    sys.exit(main())
+    played.plays(__doc__, "looked at", all_pages, large, most=20, width=600, shots="")

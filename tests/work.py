@@ -4,11 +4,8 @@
 Looks whether work is done anew whose outcome is known already: the answers would be the same, so no contract says that
 it is not. Counts with valgrind the instructions of a job in two scripts of `play`, which are the same numbers whatever
 else the machine does, and holds the first against some times the second. Prints what both took, and each pair that
-differs from what is wanted; status 1 where one does. The program is the one that `./suites` runs, or the one that is
-named. Without valgrind, and where the kit makes no program but runs it itself, it prints "skipped: .." and ends with 0.
+differs from what is wanted; status 1 where one does.
 """
-import sys
-
 import counting
 import played
 import scripting
@@ -70,25 +67,20 @@ def of_a_job(program: str, script: Make, jobs: int) -> float:
     return (more - less) / jobs
 
 
-def is_compiled(program: str) -> bool:
-    with open(program, "rb") as file:
-        return file.read(4) == b"\x7fELF"
-
-
-def main() -> int:
-    if counting.skipped():
-        return 0
-    program = played.named_program(__doc__)
-    if not is_compiled(program):
+def is_skipped(tally: played.Tally) -> bool:
+    """Whether nothing can be counted here, or the kit makes no program but runs it itself; says so."""
+    is_compiled = played.got(tally.program)[:4] == b"\x7fELF"
+    if not is_compiled:
         print("skipped: the kit runs the program itself")
-        return 0
-    tally = played.Tally()
+    return not is_compiled or counting.is_skipped()
+
+
+def pairs(tally: played.Tally) -> None:
     for title, more, less, jobs, bound in PAIRS:
-        first, second = of_a_job(program, more, jobs), of_a_job(program, less, jobs)
+        first, second = of_a_job(tally.program, more, jobs), of_a_job(tally.program, less, jobs)
         print(f"{title}: {first:.0f} and {second:.0f} instructions a job, {first / second:.2f} times")
         tally.holds(first <= bound * second, f"  which is above {bound} times")
-    return tally.told("pairs")
 
 
 if __name__ == "__main__":
-    sys.exit(main())
+    played.plays(__doc__, "pairs", is_skipped, pairs, program=None)

@@ -5,12 +5,9 @@ Plays `./suites` itself, in a copy of the repository without a build: that help,
 nothing are answered at once and as the rows have it, that all commands are told, and what a terminal is told. The
 program is a small script in place of a build there. Prints each answer that is another; status 1 where one is.
 """
-import contextlib
 import os
-import pty
 import re
 import resource
-import select
 import shutil
 import subprocess
 import sys
@@ -18,7 +15,7 @@ import tempfile
 import typing
 
 import played
-from played import Tally
+from played import Done, Shown, Tally
 
 from common import text_of
 
@@ -26,12 +23,10 @@ COPIED = ("suites", "crates", "crates.txt", "docs", "help", "tools", "CHANGELOG.
 LEFT_OUT = ("out", "__pycache__", "specs", "proofs", "must-fail", "wrong")
 # What `./suites` itself uses besides python3, git and rt.
 USED = ("sh", "cat", "find", "sleep", "readlink", "env", "head", "mktemp", "rm")
-NO_PYTHON = "is not on the path\n"
+NO_PYTHON, FAULT = "is not on the path\n", "fault command line\n"
 # The most seconds of processor time of an answer, which takes some tenths of one; a build takes a minute and more, and
 # beside much other work all takes several times as long.
 AT_ONCE = 5.0
-# The seconds after which nothing more is taken to come.
-QUIET = 3
 # Reads its input, says how much that was, and ends with the status that its last word tells.
 PROGRAM = """#!/bin/sh
 for word; do :; done
@@ -58,6 +53,7 @@ NEAR = {
     "vote 1/1/1": "votes is near",
     "--hlep": "--help is near",
     "trace x": "./suites trace < x",
+    "table -x": "no option",
     "trace --json x": "--json stands alone",
 }
 # Standard streams, and what is said with them where the program ends with status 6.
@@ -84,15 +80,16 @@ TYPED = (b"hi\nbegin 0 1 1 0 list /\nsweep 0 1\nstep 1 3\nrun 0\n", b"\x04")
 SILENT = ("line 3 did nothing: agent 0 has a job (line 2)", "line 4 did nothing: agent 1 has no job",
           "agent 0 has a job that has not ended (line 2); run 0 ends it")
 KEEP = "from front import choose, sources; choose.keep_record('{}', sources.Sources(), sources.Kit())"
+GIT = "git init -q && git add suites && git -c user.name=a -c user.email=a commit -qm a && git rev-parse --short=12 @"
 WORLDS = re.compile(r"suites: explore is at work: [1-6]0,000 worlds, \d{1,2},\d00 a second, \d+ s")
 
 
-class Copy(Tally):
-    """A copy of the repository, and what differs in it."""
+class Copy:
+    """A copy of the repository, and what holds in it."""
 
-    def __init__(self, room: str) -> None:
-        super().__init__()
-        self.top, self.bare = os.path.join(room, "copy"), os.path.join(room, "bare")
+    def __init__(self, room: str, tally: Tally | None = None) -> None:
+        self.top, self.bare, self.tally = os.path.join(room, "copy"), os.path.join(room, "bare"), tally or Tally()
+        self.holds = self.tally.holds
         os.makedirs(self.top)
         for name in COPIED:
             path = os.path.join(played.TOP, name)
@@ -104,22 +101,18 @@ class Copy(Tally):
         for name in USED:
             os.symlink(shutil.which(name), os.path.join(self.bare, name))
 
-    def answer(self, words: list[str], **how: typing.Any) -> tuple[int, str, str]:
-        """The status of `./suites` with these words, and what it printed on both streams."""
-        done = subprocess.run(["./suites", *words], cwd=self.top, stdin=subprocess.DEVNULL, capture_output=True, **how)
-        return done.returncode, done.stdout.decode("latin1"), done.stderr.decode("latin1")
+    def answer(self, *words: str, **how: typing.Any) -> Done:
+        """What `./suites` answers to these words."""
+        return played.done(["./suites", *words], cwd=self.top, **how)
 
-    def reason(self, words: str, streams: str) -> subprocess.CompletedProcess[str]:
-        """What standard error says of an answer with these standard streams, as a shell writes them."""
-        line = f"exec ./suites {words} {streams}"
-        return subprocess.run(
-            ["sh", "-c", line], cwd=self.top, stdin=subprocess.DEVNULL, capture_output=True, text=True
-        )
+    def line(self, line: str, given: bytes | None = None, **how: typing.Any) -> Done:
+        """What comes of a line of a shell at the top of the copy."""
+        return played.done(["sh", "-c", line], given, cwd=self.top, **how)
 
-    def at_once(self, words: list[str]) -> tuple[int, str, str]:
+    def at_once(self, words: str) -> Done:
         """An answer, which has to take no build."""
         before = resource.getrusage(resource.RUSAGE_CHILDREN)
-        given = self.answer(words)
+        given = self.answer(*words.split())
         after = resource.getrusage(resource.RUSAGE_CHILDREN)
         spent = after.ru_utime + after.ru_stime - before.ru_utime - before.ru_stime
         is_so = spent < AT_ONCE and not os.path.exists(os.path.join(self.top, "out"))
@@ -129,34 +122,36 @@ class Copy(Tally):
     def build(self, name: str, text: str) -> None:
         """Puts a script in the place of a command of the checked build, or under `suites` of all that have none."""
         folder = os.path.join(self.top, "out", "commands")
-        os.makedirs(folder, exist_ok=True)
-        for path, told in ((os.path.join(folder, name), text), (os.path.join(self.top, "out", "suites"), COMMANDS)):
-            played.put(path, told)
-            os.chmod(path, 0o755)
-        self.asked(KEEP.format("checked"))
+        write(os.path.join(folder, name), text)
+        write(os.path.join(self.top, "out", "suites"), COMMANDS)
+        self.python(KEEP.format("checked"))
 
-    def asked(self, line: str) -> str:
-        """What a line of Python prints that takes from the tools of the copy."""
-        settings = {**os.environ, "PYTHONPATH": os.path.join(self.top, "tools")}
-        words = [sys.executable, "-c", line]
-        return subprocess.run(words, cwd=self.top, env=settings, stdout=subprocess.PIPE, text=True, check=True).stdout
+    def python(self, line: str, **how: typing.Any) -> Done:
+        """What a line of Python tells that takes from the tools of the copy."""
+        how = {"cwd": self.top, "env": {**os.environ, "PYTHONPATH": os.path.join(self.top, "tools")}, **how}
+        return played.done([sys.executable, "-c", line], **how)
 
-    def on_terminal(self, words: list[str], *pieces: bytes, stdin: int | None = None) -> str:
-        """What a terminal shows of an answer, where these are typed, each once nothing more comes; or where this is the
-        standard input.
-        """
-        leader, end = pty.openpty()
-        process = subprocess.Popen(["./suites", *words], cwd=self.top, stdin=stdin or end, stdout=end, stderr=end)
-        os.close(end)
-        shown, left = b"", list(pieces)
-        with contextlib.suppress(OSError):
-            while True:
-                if left and not select.select([leader], [], [], QUIET)[0]:
-                    os.write(leader, left.pop(0))
-                shown += os.read(leader, 4096)
-        process.wait()
-        os.close(leader)
-        return shown.decode("latin1").replace("\r\n", "\n")
+    def on_terminal(self, words: str, *typed: bytes, **how: typing.Any) -> Shown:
+        """What a terminal shows of an answer."""
+        return played.on_terminal(["./suites", *words.split()], *typed, cwd=self.top, **how)
+
+
+def write(path: str, text: str) -> None:
+    """Puts a program there."""
+    os.makedirs(os.path.dirname(path), exist_ok=True)
+    os.chmod(played.put(path, text), 0o755)
+
+
+def on_a_copy(*parts: typing.Callable[[Copy], object]) -> typing.Callable[[Tally], None]:
+    """A part of a test, whose parts are played in one copy."""
+
+    def play(tally: Tally) -> None:
+        with tempfile.TemporaryDirectory(prefix="suites-") as room:
+            copy = Copy(room, tally)
+            for part in parts:
+                part(copy)
+
+    return play
 
 
 def needs_program(words: list[str]) -> bool:
@@ -173,42 +168,41 @@ def plays_rows(copy: Copy) -> None:
         if row["status"] != 2 and row["title"] != "Help":
             continue
         words = [word.decode() for word in row["words"]]
-        status, printed, told = copy.answer(words, env={"PATH": copy.bare})
+        told = copy.answer(*words, env={"PATH": copy.bare})
         wanted = row["output"].decode() + (tools if words == ["--help"] else "")
         if needs_program(words):
-            is_so = (status, printed) == (1, "") and told.endswith(NO_PYTHON)
-            copy.holds(is_so, f"{words} needs no program: {status} {printed} {told}")
+            copy.holds(told[:2] == (1, "") and told.err.endswith(NO_PYTHON), f"{words} needs no program: {told}")
         else:
-            is_so = (status, printed) == (row["status"], wanted)
-            copy.holds(is_so, f"line {row['line']}, {words}: {status} {printed}, and not {row['status']} {wanted}")
-            copy.holds(bool(told) == (status == 2), f"{words}: on standard error stands {told}")
+            copy.holds(told[:2] == (row["status"], wanted), f"line {row['line']}, {words}: {told}, and not {wanted}")
+            copy.holds(bool(told.err) == (told.status == 2), f"{words}: on standard error stands {told.err}")
+    # what is not answered there would now be built
+    if copy.tally.wrong:
+        sys.exit("without a build answers are others")
 
 
 def answers_at_once(copy: Copy) -> None:
     """What needs no build, and what is told of it."""
     for words in ("", "no", "-x", "play foo", "table -x", "serve 4", "help no"):
-        is_so = copy.at_once(words.split())[:2] == (2, "fault command line\n")
-        copy.holds(is_so, f"{words} is no fault of the command line")
-    copy.holds("no option" in copy.at_once(["table", "-x"])[2], "table -x")
-    is_so = copy.at_once(["play", "foo"])[2] == "suites: a script is read from standard input: ./suites play < foo\n"
-    copy.holds(is_so, "play foo")
-    for words, told in NEAR.items():
-        copy.holds(told in copy.at_once(words.split())[2], f"of {words} is not said: {told}")
+        copy.holds(copy.at_once(words)[:2] == (2, FAULT), f"{words} is no fault of the command line")
+    for words, said in NEAR.items():
+        copy.holds(said in copy.at_once(words).err, f"of {words} is not said: {said}")
+    why = copy.at_once("play foo").err
+    copy.holds(why == "suites: a script is read from standard input: ./suites play < foo\n", f"play foo: {why}")
+    played.put(os.path.join(copy.top, "two"), "servers 1\nagents 2\n")
     for words in ("trace x", "draw --agent 1 x", "trace <&-", "draw < /", "trace --agent 9 < two"):
-        played.put(os.path.join(copy.top, "two"), "servers 1\nagents 2\n")
-        done = copy.reason(words, "")
-        is_one = done.stdout == "" and len(done.stderr.splitlines()) == 1
-        copy.holds(done.returncode in (2, 6) and is_one, f"{words}: {done}")
+        done = copy.line(f"exec ./suites {words}")
+        is_one = done.out == "" and len(done.err.splitlines()) == 1
+        copy.holds(done.status in (2, 6) and is_one, f"{words}: {done}")
     for words in HELP:
-        status, printed, told = copy.at_once(words.split())
-        copy.holds((status, told) == (0, "") and len(printed) > 200, f"{words}: {status} {printed} {told}")
+        told = copy.at_once(words)
+        copy.holds((told.status, told.err) == (0, "") and len(told.out) > 200, f"{words}: {told}")
     for words in ("help", "-h"):
-        copy.holds(copy.answer([words]) == copy.answer(["--help"]), f"{words} is another text than --help")
-    copy.holds(copy.at_once(["explain", "S1"])[0] == 0, "explain S1")
-    done = subprocess.run([sys.executable, "tools", "compare"], cwd=copy.top, capture_output=True, text=True)
-    is_told = done.stderr.startswith("python3 tools compare SCRIPT..")
-    copy.holds((done.returncode, done.stdout) == (2, "") and is_told, f"compare.py without words: {done}")
-    copy.holds(copy.at_once(["--is-fresh"])[0] == 1, "a program is fresh that is not there")
+        copy.holds(copy.answer(words) == copy.answer("--help"), f"{words} is another text than --help")
+    copy.holds(copy.at_once("explain S1").status == 0, "explain S1")
+    done = played.done([sys.executable, "tools", "compare"], cwd=copy.top)
+    is_told = done.err.startswith("python3 tools compare SCRIPT..")
+    copy.holds(done[:2] == (2, "") and is_told, f"compare.py without words: {done}")
+    copy.holds(copy.at_once("--is-fresh").status == 1, "a program is fresh that is not there")
 
 
 def says_once_a_day(copy: Copy) -> None:
@@ -218,21 +212,14 @@ def says_once_a_day(copy: Copy) -> None:
         "os.utime('told', (0, 0)); console.say_once_a_day('told', 'again')"
     )
     with tempfile.TemporaryDirectory(prefix="suites-") as room:
-        done = subprocess.run(
-            [sys.executable, "-c", code],
-            cwd=room,
-            env={**os.environ, "PYTHONPATH": os.path.join(copy.top, "tools")},
-            capture_output=True,
-            text=True,
-        )
-    copy.holds(done.stderr == "suites: hello\nsuites: again\n", f"once a day is said: {done.stderr}")
+        said = copy.python(code, cwd=room).err
+    copy.holds(said == "suites: hello\nsuites: again\n", f"once a day is said: {said}")
 
 
 def tells_all_commands(copy: Copy) -> None:
     """Help tells each word that `./suites` knows, and so does README.md."""
     known = " ".join(re.findall(r"\b(?:own|tools|options)='([^']*)'", text_of(copy.top, "suites"))).split()
-    page = text_of(copy.top, "README.md")
-    text = copy.answer(["--help"])[1]
+    page, text = text_of(copy.top, "README.md"), copy.answer("--help").out
     copy.holds(len(known) > 20, f"of ./suites are known: {known}")
     for word in known:
         copy.holds(re.search(rf"^  {word}\b", text, re.M), f"--help tells nothing of {word}")
@@ -241,48 +228,39 @@ def tells_all_commands(copy: Copy) -> None:
         copy.holds(f"  {line} " in text, f"--help does not show {line}")
 
 
-def git(copy: Copy, *words: str) -> str:
-    return subprocess.run(
-        ["git", "-C", copy.top, "-c", "user.name=a", "-c", "user.email=a", *words], capture_output=True, text=True
-    ).stdout.strip()
-
-
 def tells_version(copy: Copy) -> None:
     """The version is that of CHANGELOG.md, the commit that of git, the kit that of README.md, and the build what is
     there.
     """
     version = re.search("^## (.*)", text_of(copy.top, "CHANGELOG.md"), re.M)[1].strip()
     logic = re.search(r"\(logic `(\w+)`\)", text_of("README.md"))[1]
-    status, printed, _ = copy.at_once(["--version"])
-    lines = printed.splitlines()
-    is_so = status == 0 and lines[0] == f"suites {version}" and lines[1].startswith(f"kit logic {logic}, ")
-    copy.holds(is_so, f"--version: {printed}")
-    copy.holds(lines[-1].startswith("build none yet"), f"--version without a build: {printed}")
+    told = copy.at_once("--version")
+    lines = told.out.splitlines()
+    is_so = told.status == 0 and lines[0] == f"suites {version}" and lines[1].startswith(f"kit logic {logic}, ")
+    copy.holds(is_so, f"--version: {told}")
+    copy.holds(lines[-1].startswith("build none yet"), f"--version without a build: {told}")
     if shutil.which("git"):
-        git(copy, "init", "-q")
-        git(copy, "add", "suites")
-        git(copy, "commit", "-q", "-m", "a")
-        is_so = f"\ncommit {git(copy, 'rev-parse', '--short=12', 'HEAD')}\n" in copy.at_once(["--version"])[1]
-        copy.holds(is_so, "--version tells another commit")
+        head = copy.line(GIT).out.strip()
+        copy.holds(head and f"\ncommit {head}\n" in copy.at_once("--version").out, "--version tells another commit")
         shutil.rmtree(os.path.join(copy.top, ".git"))
 
 
 def runs_a_build(copy: Copy) -> None:
     """With a build: what --version tells of it, and what goes to the program."""
     copy.build("suites", PROGRAM)
-    is_so = copy.answer(["--version"])[1].endswith("\nbuild checked, out/suites\n")
+    is_so = copy.answer("--version").out.endswith("\nbuild checked, out/suites\n")
     copy.holds(is_so, "--version does not tell the checked build")
-    status, printed, told = copy.answer(["serve", "--agents", "5"])
-    is_so = (status, printed) == (5, "") and told.startswith("suites: checked build")
-    copy.holds(is_so, f"the program's answer is changed: {status} {printed} {told}")
-    copy.holds("1 to 64 agents" in copy.answer(["serve", "--agents", "2"])[2], "the limits of agents are not told")
+    told = copy.answer("serve", "--agents", "5")
+    is_so = told[:2] == (5, "") and told.err.startswith("suites: checked build")
+    copy.holds(is_so, f"the program's answer is changed: {told}")
+    copy.holds("1 to 64 agents" in copy.answer("serve", "--agents", "2").err, "the limits of agents are not told")
     with open(os.path.join(copy.top, "big"), "wb") as file:
         file.truncate((16 << 20) + 1)
-    for streams, told in SIX.items():
-        said = copy.reason("serve --agents 6", streams)
-        copy.holds(said.returncode == 6 and told in said.stderr, f"of status 6 with {streams} is said: {said}")
-    copy.holds(copy.reason("serve --agents 143", "").returncode == 143, "a status is changed")
-    copy.holds(copy.answer(["play", "foo"])[:2] == (2, "fault command line\n"), "play foo with a build")
+    for streams, why in SIX.items():
+        told = copy.line(f"exec ./suites serve --agents 6 {streams}")
+        copy.holds(told.status == 6 and why in told.err, f"of status 6 with {streams} is said: {told}")
+    copy.holds(copy.answer("serve", "--agents", "143").status == 143, "a status is changed")
+    copy.holds(copy.answer("play", "foo")[:2] == (2, FAULT), "play foo with a build")
 
 
 def answers_first(copy: Copy) -> None:
@@ -291,41 +269,40 @@ def answers_first(copy: Copy) -> None:
     copy.build("suites", PROGRAM)
     os.rename(os.path.join(out, "suites"), os.path.join(out, "first_answer"))
     os.unlink(os.path.join(out, "choice.sh"))
-    copy.asked(KEEP.format("first"))
+    copy.python(KEEP.format("first"))
     for _ in range(2):
-        status, _, told = copy.answer(["serve", "--agents", "5"])
-        copy.holds(status == 5 and told.startswith("suites: checked build"), f"the small build answers {status} {told}")
-    version, choice = copy.answer(["--version"])[1], copy.asked("from common import built; print(built.kept_choice())")
+        told = copy.answer("serve", "--agents", "5")
+        is_so = told.status == 5 and told.err.startswith("suites: checked build")
+        copy.holds(is_so, f"the small build answers {told}")
+    version, choice = copy.answer("--version").out, copy.python("from common import built; print(built.kept_choice())")
     copy.holds(version.endswith("\nbuild first, out/first_answer\n"), f"of the small build --version tells {version}")
-    copy.holds(choice == "None\n", f"a tool would ask {choice}")
+    copy.holds(choice.out == "None\n", f"a tool would ask {choice}")
 
 
 def tells_a_terminal(copy: Copy) -> None:
     """What a terminal is told besides, with a build."""
     reading = "suites: reading from the terminal"
-    shown = copy.on_terminal(["play"], *TYPED)
+    shown = copy.on_terminal("play", *TYPED, both=True).text
     copy.holds(reading in shown and "read hi" in shown, f"a terminal that is read is told: {shown}")
     copy.holds(all(line in shown for line in SILENT), f"of what did nothing a terminal is told: {shown}")
     copy.holds("No such process" not in shown, f"a terminal is told of a process: {shown}")
-    shown = copy.on_terminal(["acl"], b"hi\n", b"\x04")
+    shown = copy.on_terminal("acl", b"hi\n", b"\x04", both=True).text
     copy.holds(shown.endswith("read hi\n"), f"a terminal is told behind the answer: {shown}")
     # a program that ends at once takes more than a second where the machine has much else to do
-    shown = next(
-        (shown for shown in (copy.on_terminal(["acl", "quick"]) for _ in range(5)) if reading not in shown), reading
-    )
+    tries = (copy.on_terminal("acl quick", both=True).text for _ in range(5))
+    shown = next((shown for shown in tries if reading not in shown), reading)
     copy.holds("fault word 1" in shown and "./suites explain" in shown, f"a terminal that is not read is told: {shown}")
-    is_so = "./suites explain" in copy.on_terminal(["serve", "--agents", "3"])
-    copy.holds(is_so, "a fault on a terminal is not explained")
-    is_so = "above 16 MiB" in copy.on_terminal(["serve", "--agents", "6"])
-    copy.holds(is_so, "status 6 is not explained on a terminal")
+    for agents, told in (("3", "./suites explain"), ("6", "above 16 MiB")):
+        shown = copy.on_terminal(f"serve --agents {agents}", both=True).text
+        copy.holds(told in shown, f"of status {agents} a terminal is told {shown}")
 
 
 def tells_worlds(copy: Copy) -> None:
     """How far `explore` is, a terminal is told alone; it is told all else that the program says on standard error."""
     copy.build("explore", EXPLORE)
-    copy.answer(["explore"])
-    copy.holds(copy.answer(["explore"]) == (0, EXPLORED, ""), "explore says more where no terminal is told")
-    shown = copy.on_terminal(["explore"], stdin=subprocess.DEVNULL)
+    copy.answer("explore")
+    copy.holds(copy.answer("explore") == (0, EXPLORED, ""), "explore says more where no terminal is told")
+    shown = copy.on_terminal("explore", stdin=subprocess.DEVNULL, both=True).text
     copy.holds(len(WORLDS.findall(shown)) > 1, f"a terminal is told no worlds: {shown}")
     is_heard = all(f"\r\033[K{text}\n" in shown for text in HEARD)
     copy.holds(is_heard, f"a terminal is not told all that the program says: {shown}")
@@ -333,23 +310,9 @@ def tells_worlds(copy: Copy) -> None:
     copy.holds(shown.endswith(f"\r\033[K{EXPLORED}"), f"a terminal is told more at the end: {shown}")
 
 
-def main() -> int:
-    with tempfile.TemporaryDirectory(prefix="suites-") as room:
-        copy = Copy(room)
-        plays_rows(copy)
-        # what is not answered there would now be built
-        if not copy.wrong:
-            answers_at_once(copy)
-            says_once_a_day(copy)
-            tells_all_commands(copy)
-            tells_version(copy)
-            runs_a_build(copy)
-            if os.path.exists("/dev/ptmx"):
-                tells_a_terminal(copy)
-                tells_worlds(copy)
-            answers_first(copy)
-    return copy.told("answers")
-
-
 if __name__ == "__main__":
-    sys.exit(main())
+    on_terminals = (tells_a_terminal, tells_worlds) if os.path.exists("/dev/ptmx") else ()
+    played.plays(__doc__, "answers", on_a_copy(
+        plays_rows, answers_at_once, says_once_a_day, tells_all_commands, tells_version, runs_a_build, *on_terminals,
+        answers_first,
+    ))  # fmt: skip
