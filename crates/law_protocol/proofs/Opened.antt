@@ -1,7 +1,7 @@
 -- Contents that are to be had without asking are opened until none is left that is needed: each takes one suite from those that have none, so
 -- that as many rounds as there are suites are enough.
-use Rattle.law_protocol.proofs.Vocabulary.{nat_cmp_total, IsOrdered-insert, Content, Know, ReadPoint, GatheredSuite, Suites, suite_of, with_suite, known_of, Rises, Outcome as Executed, ◌≡◌, ℕ, zero, suc, ◌+◌, ◌≤◌, Bool, false, cond, List, [], ◌∷◌}
-use Rattle.law_protocol.proofs.Vocabulary.{Option, Some, None, refl, sym, ap, subst, ◌∙◌, arith, length, is_some, Fixed, Task}
+use Rattle.law_protocol.proofs.Vocabulary.{nat_cmp_total, IsOrdered-insert, Content, Know, ReadPoint, GatheredSuite, Suites, suite_of, with_suite, known_of, Rises, ◌≡◌, ℕ, zero, suc, ◌+◌, ◌≤◌, Bool, false, cond, List, [], ◌∷◌, Option, Some, None}
+use Rattle.law_protocol.proofs.Vocabulary.{refl, sym, ap, subst, ◌∙◌, arith, length, is_some, Fixed, Task}
 use Rattle.std.specs.Ordering.{nat_cmp}
 use Rattle.std.specs.BTreeMap.{is_at}
 use Rattle.std.proofs.lemmas.Map.{length-set_value}
@@ -55,11 +55,7 @@ with_content task all number suite first content = record {
 module _ (fixed : Fixed) (task : Task) where
   -- ---- what is needed is not there
 
-  need_in : Executed → Option Need
-  need_in h0 = grind arith
-
   needed_first : (known' : Known) (heard : Heard (List Answer) Refusal) (need : Need) → answered known' heard ≡ exec.Need need → heard ≡ Needs need
-  unfolding need_in
   needed_first known' heard need h3 = search arith
 
   none_there : (content : Option Content) → is_some content ≡ false → content ≡ None

@@ -57,22 +57,11 @@ pub record Came (fixed : Fixed) (task : Task) (suites : Suites) (outcome : Propo
 came_more : (fixed : Fixed) (task : Task) (less more : Suites) (outcome : Proposal) → MoreKnown (known_of less) (known_of more) → AreFit more → Came fixed task less outcome → Came fixed task more outcome
 came_more fixed task less more outcome goes fit came = search (more_known_changes_nothing, still_more, arith)
 
-answers_in : List Answer → Executed → List Answer
-answers_in h0 h1 = search arith
-
-set_in : Changes → Executed → Changes
-set_in h0 h1 = search arith
-
-refusal_in : Refusal → Executed → Refusal
-refusal_in h0 h1 = search arith
-
 came_done : (fixed : Fixed) (task : Task) (suites : Suites) (answers : List Answer) (set : Changes) → AreFit suites → heard_on fixed task suites ≡ exec.Done answers set
     → Came fixed task suites (Ok (record { answers = answers; changes = set }))
-unfolding answers_in set_in
 came_done fixed task suites answers set fit = search arith
 
 came_refused : (fixed : Fixed) (task : Task) (suites : Suites) (why : Refusal) → AreFit suites → heard_on fixed task suites ≡ exec.Refused why → Came fixed task suites (Err why)
-unfolding refusal_in
 came_refused fixed task suites why fit = search arith
 
 -- ---- what a phase keeps

@@ -1,7 +1,7 @@
 -- A step of an agent is played, of which it put down what it was told.
-use Rattle.run_certify.proofs.Vocabulary.{◌≡◌, ℕ, true, List, [], ◌∷◌, ◌++◌, slice_set, subst, refl, ap, ◌∙◌, sym, Option, Some, None, cons_option, none-some, same_Some, Fixed, fixed_of, asked_by, Done, EndedJob, Served, Step, decided}
-use Rattle.run_certify.proofs.Vocabulary.{has_sense, Stepped, World, actor_at, step, AgentEntry, Asked, decision_by, job_at, ItemAt, asked, ended, entries_by, item_by, served_as, EndsOtherwise, HasEnded, AskedFails, AskedGoes, Fails, IsEnd}
-use Rattle.run_certify.proofs.Vocabulary.{IsEvent, IsSound, IsUse, Walked}
+use Rattle.run_certify.proofs.Vocabulary.{◌≡◌, ℕ, true, List, [], ◌∷◌, ◌++◌, slice_set, subst, refl, ap, ◌∙◌, sym, Option, Some, None, cons_option, same_Some, Fixed, fixed_of, asked_by, Done, EndedJob, Served, Step, decided, arith, has_sense}
+use Rattle.run_certify.proofs.Vocabulary.{Stepped, World, actor_at, step, AgentEntry, Asked, decision_by, job_at, ItemAt, asked, ended, entries_by, item_by, served_as, EndsOtherwise, HasEnded, AskedFails, AskedGoes, Fails, IsEnd, IsEvent, IsSound}
+use Rattle.run_certify.proofs.Vocabulary.{IsUse, Walked}
 use Rattle.run_certify.proofs.Deciding.{decided_is}
 use Rattle.run_certify.proofs.Events.{end_after, ended_by, otherwise_by}
 use Rattle.run_certify.proofs.Facts.{served_sense, unserved}
@@ -60,17 +60,6 @@ asked_unlike was old agent server stamp one of it not =
     not (subst (λ (w : Walked). IsAnswered (fixed_of w.given) w.world agent server stamp one it.used.rest) (sym it.kept)
     (answered (fixed_of was.given) was.world agent server stamp one it.used.rest rest sense (sym it.used.first ∙ told) same)))
 
--- the agent was told of another server, or another stamp
-pub told_otherwise : (old : Walked) (agent server stamp : ℕ) (one : ItemAt) → one.item.agent ≡ Some agent → ((server ≡ one.server) × (stamp ≡ one.item.stamp) → ⊥) → AskedFails agent server stamp one old
-told_otherwise old agent server stamp one of not was it = asked_unlike was old agent server stamp one of it (λ so. not (so.at, so.told))
-
--- something else was served
-pub served_otherwise : (old mid : Walked) (agent server stamp : ℕ) (one : ItemAt) (done : Done) → one.item.agent ≡ Some agent → IsEvent old (Step agent) done mid → (served_as one.item.agent done.served ≡ Some one → ⊥)
-    → AskedFails agent server stamp one old
-served_otherwise old mid agent server stamp one done of played not was it =
-    asked_unlike was old agent server stamp one of it (λ so.
-    not (ap (λ who. served_as who done.served) of ∙ ap (λ (s : Stepped). served_as (Some agent) s.done.served) (sym played.is) ∙ so.served))
-
 -- the job ended otherwise
 pub ended_otherwise : (old mid noted : Walked) (agent server stamp : ℕ) (one : ItemAt) (done : Done) → one.item.agent ≡ Some agent → IsEvent old (Step agent) done mid
     → noted.unused ≡ mid.unused → EndsOtherwise noted.unused agent done.outcome
@@ -83,17 +72,13 @@ ended_otherwise old mid noted agent server stamp one done of played same not was
 -- ---- the item was served
 
 some_what : (who : Option ℕ) (served : Option Served) (one : ItemAt) → served_as who served ≡ Some one → (what : Served) × (served ≡ Some what)
-some_what who (Some what) one is = (what, refl)
-some_what who None one is = absurd (none-some one is)
+some_what who served one h3 = search arith
 
 -- what was decided in it
 decided_so : (was old mid : Walked) (agent : ℕ) (entry : AgentEntry) (done : Done) → IsUse was agent entry old → IsEvent old (Step agent) done mid
     → step (fixed_of was.given) was.world (Step agent) ≡ record { world = mid.world; done = done } → IsSound was
     → decided (fixed_of was.given) was.world (Step agent) ≡ decision_by (job_at mid.begun.jobs agent) done.served
-decided_so was old mid agent entry done it played stepped sound =
-    decided_is was.given sound.accepted was.world was.begun.jobs sound.played agent
-    ∙ ap (λ (s : Stepped). decision_by (job_at was.begun.jobs agent) s.done.served) stepped
-    ∙ ap (λ jobs. decision_by (job_at jobs agent) done.served) (sym (ap (λ (w : Walked). w.begun.jobs) played.kept ∙ ap (λ (w : Walked). w.begun.jobs) it.kept))
+decided_so was old mid agent entry done it played stepped sound = search (decided_is, arith)
 
 pub asked_served : (old mid noted now : Walked) (agent server stamp : ℕ) (one : ItemAt) (done : Done) → one.item.agent ≡ Some agent → server ≡ one.server → stamp ≡ one.item.stamp → IsEvent old (Step agent) done mid
     → served_as one.item.agent done.served ≡ Some one → noted ≡ record mid { made = mid.made ++ cons_option (decision_by (job_at mid.begun.jobs agent) done.served) [] }

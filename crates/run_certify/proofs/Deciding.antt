@@ -1,26 +1,19 @@
 -- What an event decides: of a step, what is shown by what was served and the job that its agent began last; of any other event, nothing.
-use Rattle.run_certify.proofs.Vocabulary.{◌≡◌, ◌≢◌, ⊎_elim, ℕ, zero, suc, ◌+◌, ◌<◌, Bool, true, false, cond, [], ◌∷◌, ◌++◌, List, length, slice_set, Option, Some, None, refl, sym, ap, subst, ◌∙◌, arith, ◌*◌, ◌%◌, ◌&&◌, is_some, nat_lt}
-use Rattle.run_certify.proofs.Vocabulary.{Result, slice_index_or, and_parts, none-some, same_Some, Opening, IsAccepted, Answer, Refusal, Request, Reply, Verdict, State, record_of, recorded, reply_of, verdict_of, answer_of, is_full, Job}
-use Rattle.run_certify.proofs.Vocabulary.{Transaction, Sweep, Fixed, Task, TransactionRun, Doing, Running, RunningSweep, decision_of, execute, is_decide, Agent, begin, begins, fixed_of, is_idle, max_jobs, next_in, next_of, started}
-use Rattle.run_certify.proofs.Vocabulary.{asks_same, Event, Begin, Step, Crash, Return, Forget, Lack, Served, Decided, answer_in, decided, decided_as, decided_at, decided_by, decisions, task_at, task_of, to_decide, run, can_begin}
-use Rattle.run_certify.proofs.Vocabulary.{has_sense, Actor, World, actor_at, answered, asks, asks_at, opening, server_at, step, steps_once, after-append, IsAt, decides, sweep_decides_none, holds_of, rest_of, same_or, NotIn, Recorded}
-use Rattle.run_certify.proofs.Vocabulary.{Stands, no_decide, Tells, Holds, actor_opens, AllHave, Has, becomes_all, event_all, on_course, stays_begin, HasPlace, IsOfJob, IsPlayed, decision_as, decision_by, job_at, job_of, jobs_after}
+use Rattle.run_certify.proofs.Vocabulary.{◌≡◌, ◌≢◌, ℕ, zero, suc, ◌+◌, ◌<◌, Bool, true, false, cond, [], ◌∷◌, ◌++◌, List, length, slice_set, Option, Some, None, refl, sym, ap, subst, ◌∙◌, arith, ◌*◌, ◌%◌, is_some, Result, slice_index_or, none-some}
+use Rattle.run_certify.proofs.Vocabulary.{Opening, IsAccepted, Answer, Refusal, Request, Reply, Verdict, State, record_of, recorded, reply_of, verdict_of, answer_of, Job, Transaction, Sweep, Fixed, Task, TransactionRun, Doing, Running, decision_of}
+use Rattle.run_certify.proofs.Vocabulary.{execute, is_decide, Agent, begin, begins, fixed_of, is_idle, next_in, next_of, started, asks_same, Event, Begin, Step, Crash, Return, Forget, Lack, Served, Decided, answer_in, decided, decided_as, decided_at}
+use Rattle.run_certify.proofs.Vocabulary.{decided_by, decisions, task_at, task_of, to_decide, run, can_begin, has_sense, Actor, World, actor_at, answered, asks, asks_at, opening, server_at, step, steps_once, after-append, IsAt, decides}
+use Rattle.run_certify.proofs.Vocabulary.{sweep_decides_none, holds_of, rest_of, same_or, NotIn, Recorded, Stands, Tells, Holds, actor_opens, AllHave, Has, becomes_all, event_all, on_course, stays_begin, HasPlace, IsOfJob, IsPlayed, decision_as}
+use Rattle.run_certify.proofs.Vocabulary.{decision_by, job_at, job_of, jobs_after}
 use Rattle.rep_core.specs.declared.reply.Reply.TheVariants as reply
 use Rattle.rep_core.specs.declared.reply.Verdict.TheVariants as verdict
-use Rattle.txn_core.specs.Agents as agents
 use Rattle.law_runs.specs.Claims.{ended}
-use Rattle.law_runs.proofs.Answering.{none_at}
 use Rattle.law_runs.proofs.Worlds.{agent_of}
 
 -- ---- the job that an agent began last
 
 pub opens : (given : Opening) (jobs : List (Option Job)) → IsPlayed given (opening given) jobs
-opens given jobs = record {
-  events = [];
-  is = refl;
-  begun = λ n actor there task is.
-      absurd (none-some task (ap (λ (agent : Agent). task_of agent.doing) (sym (actor_opens 0 given.agents n actor there).1) ∙ is));
-}
+opens given jobs = search (none-some, actor_opens, arith)
 
 -- what is put in a list's place stands there, and nothing else changes
 set_there : {A : Type 0} (xs : List A) (i : ℕ) (x d : A) → i < length xs → slice_index_or (slice_set xs i x) i d ≡ x
@@ -37,14 +30,10 @@ set_others (y ∷ xs) (suc i) (suc j) x d apart = set_others xs i j x d (λ same
 
 -- an agent's number is that of its transaction
 number_of_task : (ds : List Decided) (i count : ℕ) (doing : Option Doing) (task : Task) → IsAt ds i count doing → i < 64 → task_of doing ≡ Some task → task.t % 64 ≡ i
-number_of_task ds i count (Some (Running txn_run)) task at small is =
-    ap (λ (task : Task). task.t % 64) (sym (same_Some txn_run.task task is)) ∙ ap (λ t. t % 64) at.numbered ∙ rest_of at.place i small
-number_of_task ds i count (Some (RunningSweep sweep_run)) task at small is = absurd (none-some task is)
-number_of_task ds i count None task at small is = absurd (none-some task is)
+number_of_task ds i count doing task h5 h6 h7 = search arith
 
 no_job : (doing : Option Doing) (task : Task) → is_idle doing ≡ true → task_of doing ≡ Some task → ⊥
-no_job None task idle is = none-some task is
-no_job (Some doing) task idle is = cc
+no_job doing task h2 h3 = search arith
 
 -- what the home of a transaction says of it
 abbrev said_at : Bool → Option Verdict → Verdict → Reply
@@ -93,18 +82,10 @@ module _ (given : Opening) (accepted : IsAccepted given) (world : World) (jobs :
     may actor there = sym (ap (can_begin fixed job) there) ∙ sense
 
     idle : (agent : Agent) → begins fixed agent job ≡ true → is_idle agent.doing ≡ true
-    idle agent may' =
-        let parts = and_parts (is_idle agent.doing && agents.has_sense fixed job) (nat_lt agent.count max_jobs) may' in
-        let first = and_parts (is_idle agent.doing) (agents.has_sense fixed job) parts.0 in
-        first.0
+    idle agent may' = search arith
 
     before : AllHave fixed (IsOfJob later) world
-    before n actor there task is =
-        let n_is = number_is n actor task there is in
-        ⊎_elim
-        (λ (same : n ≡ number). absurd (no_job actor.agent.doing task (idle actor.agent (may actor (sym (ap (actor_at world) same) ∙ there))) is))
-        (λ (apart : n ≢ number). ap (job_at later) n_is ∙ others n apart ∙ sym (ap (job_at jobs) n_is) ∙ played.begun n actor there task is)
-        (same_or n number)
+    before n actor there task is = search (number_is, no_job, idle, may, others, same_or, arith)
 
     begun_now : (job : Job) → job_at later number ≡ Some job → (agent : Agent) → agent.index ≡ number → number < 64 → Has fixed (IsOfJob later) (record (started fixed agent job) { count = agent.count + 1 })
     begun_now (Sweep server) last agent index small = λ task is. absurd (none-some task is)
@@ -141,8 +122,7 @@ module _ (given : Opening) (accepted : IsAccepted given) (world : World) (jobs :
     decides_so st task asked = decided_at (Some st) (to_decide asked) (decided_as task (answer_in (reply_of st asked))) ≡ decision_as (job_at jobs number) (to_decide asked) (answer_in (reply_of st asked))
 
     quiet : (st : State) (task : Option Task) (asked : Request) → is_decide asked ≡ false → decides_so st task asked
-    quiet st task asked other =
-        subst (λ t. decided_at (Some st) t (decided_as task (answer_in (reply_of st asked))) ≡ decision_as (job_at jobs number) t (answer_in (reply_of st asked))) (sym (no_decide asked other)) refl
+    quiet st task asked other = search arith
 
     -- the home has no record of it, or that it was given up
     first_only : (task : Task) (new : Verdict) (old : Option Verdict) → ((v : Verdict) → old ≡ Some v → Recorded ds task.t v) → NotIn ds task.t → (up : Bool)
@@ -156,8 +136,7 @@ module _ (given : Opening) (accepted : IsAccepted given) (world : World) (jobs :
         let was = recorded (verdict.Refused refusal) refl in absurd (none was.decision was.there was.of_it)
 
     as_begun : (task : Task) (answer : Option (Result (List Answer) Refusal)) → job_at jobs number ≡ Some (job_of task) → decided_as (Some task) answer ≡ decision_as (job_at jobs number) (Some task.t) answer
-    as_begun task (Some answer) is = sym (ap (λ job. decision_as job (Some task.t) (Some answer)) is)
-    as_begun task None is = refl
+    as_begun task answer h2 = search arith
 
     module _ (actor : Actor) (there : actor_at world number ≡ Some actor) (server : ℕ) (st : State) (at : server_at world server ≡ Some st) where
       running : (txn_run : TransactionRun) (asked : Request) → actor.agent.doing ≡ Some (Running txn_run) → next_in fixed (Some (Running txn_run)) ≡ Some (server, asked)
@@ -176,10 +155,7 @@ module _ (given : Opening) (accepted : IsAccepted given) (world : World) (jobs :
           ∙ as_begun task (answer_in (said_at st.up (record_of st task.t) (verdict_of (decision_of task does.outcome)))) begun)
 
       by_doing : (doing : Option Doing) (asked : Request) → actor.agent.doing ≡ doing → next_in fixed doing ≡ Some (server, asked) → decides_so st (task_of doing) asked
-      by_doing None asked doing next = cc
-      by_doing (Some (Running txn_run)) asked doing next = running txn_run asked doing next (is_decide asked) refl
-      by_doing (Some (RunningSweep sweep_run)) asked doing next =
-          quiet st None asked (ap is_decide (sym (asks_same _ server _ asked next)) ∙ sweep_decides_none fixed.service sweep_run sweep_run.now)
+      by_doing doing asked h2 h3 = search (running, quiet, asks_same, sweep_decides_none, arith)
 
     abbrev shows : Option Task → Option Served → Type 0
     shows task what = decided_by world task what ≡ decision_by (job_at jobs number) what
@@ -193,23 +169,17 @@ module _ (given : Opening) (accepted : IsAccepted given) (world : World) (jobs :
           reply = answer_of st
               (record { stamp = actor.stamp; value = asked.1 });
         })))).done.served
-    by_room actor asked st there next at true = refl
-    by_room actor asked st there next at false =
-        ap (λ found. decided_at found (to_decide asked.1) (decided_as (task_of actor.agent.doing) (answer_in (reply_of st asked.1)))) at
-        ∙ by_doing actor there asked.0 st at actor.agent.doing asked.1 refl next
+    by_room actor asked st h3 h4 h5 full = search (by_doing, arith)
 
     by_server : (actor : Actor) (asked : ℕ × Request) → actor_at world number ≡ Some actor → next_of fixed actor.agent ≡ Some asked → (found : Option State) → server_at world asked.0 ≡ found
         → shows (task_of actor.agent.doing) (asks_at fixed world number actor asked found).done.served
-    by_server actor asked there next None at = refl
-    by_server actor asked there next (Some st) at = by_room actor asked st there next at (is_full st (record { stamp = actor.stamp; value = asked.1 }))
+    by_server actor asked h2 h3 found h5 = search (by_room, arith)
 
     by_request : (actor : Actor) → actor_at world number ≡ Some actor → (asked : Option (ℕ × Request)) → next_of fixed actor.agent ≡ asked → shows (task_of actor.agent.doing) (asks fixed world number actor asked).done.served
-    by_request actor there None next = refl
-    by_request actor there (Some asked) next = by_server actor asked there next (server_at world asked.0) refl
+    by_request actor h1 asked h3 = search (by_server, arith)
 
     by_actor : (found : Option Actor) → actor_at world number ≡ found → shows (task_at found) (steps_once fixed world number found).done.served
-    by_actor None there = refl
-    by_actor (Some actor) there = by_request actor there (next_of fixed actor.agent) refl
+    by_actor found h1 = search (by_request, arith)
 
     pub decided_is : decided fixed world (Step number) ≡ decision_by (job_at jobs number) (step fixed world (Step number)).done.served
     decided_is = by_actor (actor_at world number) refl
@@ -220,14 +190,5 @@ abbrev pub is_step : Event → Bool
 is_step (Step number) = true
 is_step other = false
 
-no_task : (world : World) (what : Option Served) → decided_by world None what ≡ None
-no_task world None = refl
-no_task world (Some what) = none_at (server_at world what.server) (to_decide what.request.value)
-
 pub decides_nothing : (fixed : Fixed) (world : World) (event : Event) → is_step event ≡ false → decided fixed world event ≡ None
-decides_nothing fixed world (Begin number job) other = no_task world (step fixed world (Begin number job)).done.served
-decides_nothing fixed world (Step number) other = cc
-decides_nothing fixed world (Crash server) other = no_task world (step fixed world (Crash server)).done.served
-decides_nothing fixed world (Return server) other = no_task world (step fixed world (Return server)).done.served
-decides_nothing fixed world (Forget number site) other = no_task world (step fixed world (Forget number site)).done.served
-decides_nothing fixed world (Lack number why) other = no_task world (step fixed world (Lack number why)).done.served
+decides_nothing fixed world event h3 = search arith

@@ -1,6 +1,6 @@
 -- Ends of jobs are no events; and what is left at the end.
-use Rattle.run_certify.proofs.Vocabulary.{◌≡◌, ◌≢◌, ⊎_elim, ℕ, zero, suc, ◌+◌, ◌<◌, List, [], ◌∷◌, ◌++◌, length, slice_set, subst, refl, ap, ◌∙◌, sym, arith, slice_index_or, Option, Some, None, cons_option, AgentEntry, Ended, EndedJob, Item}
-use Rattle.run_certify.proofs.Vocabulary.{ItemAt, IsMerge, history_of, event_of, events_of, events_at, operated, past_stamp, rest_from, transcript_of, unused_at, up_to_stamp, weave}
+use Rattle.run_certify.proofs.Vocabulary.{◌≡◌, ℕ, zero, suc, ◌+◌, ◌<◌, List, [], ◌∷◌, ◌++◌, length, slice_set, refl, ap, ◌∙◌, sym, arith, slice_index_or, cons_option, AgentEntry, Ended, EndedJob, Item, ItemAt, IsMerge, history_of, event_of}
+use Rattle.run_certify.proofs.Vocabulary.{events_of, rest_from, transcript_of, weave}
 use Rattle.run_certify.proofs.Lists.{cons_append, long_set, no_cons, same_or, set_again, set_apart, set_commute, set_here}
 use Rattle.run_certify.proofs.Picking.{here_of}
 
@@ -13,39 +13,14 @@ rest_ended from (entries ∷ unused) (suc agent) outcome rest at = ap (λ es. ev
 pub weave_ended : (items : List ItemAt) (unused : List (List AgentEntry)) (agent : ℕ) (outcome : EndedJob) (rest : List AgentEntry) → agent < length unused
     → transcript_of unused agent ≡ Ended outcome ∷ rest → weave items unused ≡ weave items (slice_set unused agent rest)
 weave_ended [] unused agent outcome rest low at = rest_ended 0 unused agent outcome rest at
-weave_ended (one ∷ items) unused agent outcome rest low at =
-    by_who items unused agent outcome rest one one.item.agent low at (λ next long h. weave_ended items next agent outcome rest long h)
-  where
-    by_who : (items : List ItemAt) (unused : List (List AgentEntry)) (agent : ℕ) (outcome : EndedJob) (rest : List AgentEntry) (one : ItemAt) (who : Option ℕ) → agent < length unused → transcript_of unused agent ≡ Ended outcome ∷ rest
-        → ((next : List (List AgentEntry)) → agent < length next → transcript_of next agent ≡ Ended outcome ∷ rest → weave items next ≡ weave items (slice_set next agent rest))
-        → events_at unused one who ++ weave items (unused_at unused who) ≡ events_at (slice_set unused agent rest) one who ++ weave items (unused_at (slice_set unused agent rest) who)
-    by_who items unused agent outcome rest one None low at more = ap (λ es. operated one.server one.item.request.value ++ es) (more unused low at)
-    by_who items unused agent outcome rest one (Some other) low at more = ⊎_elim
-        (λ (e : other ≡ agent). subst (λ o. events_at unused one (Some o) ++ weave items (unused_at unused (Some o)) ≡ events_at (slice_set unused agent rest) one
-        (Some o) ++ weave items (unused_at (slice_set unused agent rest) (Some o))) (sym e)
-        (ap (λ es. events_of agent (up_to_stamp es) ++ weave items (slice_set unused agent (past_stamp es))) at
-        ∙ ap (λ us. events_of agent (up_to_stamp rest) ++ weave items us) (sym (set_again unused agent rest (past_stamp rest)))
-        ∙ ap (λ es. events_of agent (up_to_stamp es) ++ weave items (slice_set (slice_set unused agent rest) agent (past_stamp es))) (sym (set_here unused agent rest [] low))))
-        (λ (n : other ≢ agent).
-        let same : transcript_of (slice_set unused agent rest) other ≡ transcript_of unused other = set_apart unused agent other rest [] n in
-        let next : List (List AgentEntry) = slice_set unused other (past_stamp (transcript_of unused other)) in
-        ap (λ es. events_of other (up_to_stamp (transcript_of unused other)) ++ es)
-        (more next (let l = long_set unused other (past_stamp (transcript_of unused other)) in omega arith) (set_apart unused other agent (past_stamp (transcript_of unused other)) [] (λ e. n (sym e)) ∙ at)
-        ∙ ap (λ us. weave items us) (set_commute unused other agent (past_stamp (transcript_of unused other)) rest n))
-        ∙ ap (λ es. events_of other (up_to_stamp es) ++ weave items (slice_set (slice_set unused agent rest) other (past_stamp es))) (sym same))
-        (same_or other agent)
+weave_ended (one ∷ items) unused agent outcome rest low at = search (slice_set, set_again, set_here, set_apart, long_set, set_commute, same_or, weave_ended items, arith)
 
 -- ---- the rest, agent by agent
-
-spell_first : (agent : ℕ) (y : AgentEntry) (ys : List AgentEntry) → events_of agent (y ∷ ys) ≡ cons_option (event_of agent y) (events_of agent ys)
-spell_first agent y ys = refl
 
 rest_first : (from : ℕ) (unused : List (List AgentEntry)) (agent : ℕ) (y : AgentEntry) (ys : List AgentEntry) → ((i : ℕ) → i < agent → slice_index_or unused i [] ≡ []) → agent < length unused → slice_index_or unused agent [] ≡ y ∷ ys
     → rest_from from unused ≡ cons_option (event_of (from + agent) y) (rest_from from (slice_set unused agent ys))
 rest_first from [] agent y ys empty low at = absurd (omega arith)
-rest_first from (entries ∷ unused) zero y ys empty low at =
-    ap (λ es. events_of from es ++ rest_from (from + 1) unused) at ∙ cons_append (event_of from y) (events_of from ys) (rest_from (from + 1) unused)
-    ∙ ap (λ n. cons_option (event_of n y) (events_of from ys ++ rest_from (from + 1) unused)) (let e : from ≡ from + 0 = omega arith in e)
+rest_first from (entries ∷ unused) zero y ys empty low at = search (cons_append, arith)
 rest_first from (entries ∷ unused) (suc agent) y ys empty low at =
     let none : entries ≡ [] = empty 0 (omega arith) in
     let more = rest_first (from + 1) unused agent y ys (λ i l. empty (suc i) (omega arith)) (omega arith) at in

@@ -1,6 +1,6 @@
 -- When what was served is an item, and when an entry is the end of a job: where all their parts are the same.
-use Rattle.run_certify.proofs.Vocabulary.{◌≡◌, ℕ, Bool, ap, ◌==◌, ◌&&◌, Decides, Decides-and, Decides-eqb, Decides-like, same_reply, same_reply_decides, same_request, same_request_decides, same_stamped, same_stamped_decides}
-use Rattle.run_certify.proofs.Vocabulary.{same_outcome, same_outcome_decides, EndedJob, Served, Item, AgentEntry, Ended, ItemAt, item_by, at_server}
+use Rattle.run_certify.proofs.Vocabulary.{◌≡◌, ℕ, Bool, ap, ◌==◌, ◌&&◌, Decides, Decides-and, Decides-eqb, Decides-like, same_reply, same_reply_decides, same_request, same_request_decides, same_stamped, same_stamped_decides, same_outcome}
+use Rattle.run_certify.proofs.Vocabulary.{same_outcome_decides, EndedJob, Served, Item, AgentEntry, Ended, ItemAt, item_by, at_server}
 
 abbrev pub same_item : Served → ℕ → Item → Bool
 same_item served server item =

@@ -1,8 +1,8 @@
 -- One item after another, one entry after another, to the end.
-use Rattle.run_certify.proofs.Vocabulary.{◌≡◌, ◌≢◌, ◌⊎◌, ⊎_elim, inl, inr, ℕ, zero, suc, ◌+◌, ◌<◌, ◌≤◌, true, false, true≢false, List, [], ◌∷◌, ◌++◌, length, slice_set, subst, refl, ap, ◌∙◌, sym, arith, slice_index_or, Option, Some}
-use Rattle.run_certify.proofs.Vocabulary.{None, Result, Err, Opening, IsAccepted, Fixed, fixed_of, EndedJob, Served, Begin, Step, Forget, Lack, Decided, decisions, World, opening, step, Item, CertifyFault, AgentEntry, Asked, Begun, Ended}
-use Rattle.run_certify.proofs.Vocabulary.{Forgot, Lacked, IsCertified, IsCertifiedAs, AreCounted, IsPlayed, can_all_be_told, ItemAt, IsMerge, item_by, served_as, transcript_of, weave, AreAllPlayed, IsTaken, at_server, IsTurn, is_asked}
-use Rattle.run_certify.proofs.Vocabulary.{AskedFails, AskedGoes, EntryFails, EntryGoes, Fails, Goes, IsItemTaken, IsLeft, IsOfRun, IsShorter, IsSound, IsStart, IsUse, Walked}
+use Rattle.run_certify.proofs.Vocabulary.{◌≡◌, ◌≢◌, ◌⊎◌, ⊎_elim, ℕ, zero, suc, ◌+◌, ◌<◌, ◌≤◌, true, false, true≢false, List, [], ◌∷◌, ◌++◌, length, slice_set, subst, refl, ap, ◌∙◌, sym, arith, slice_index_or, Option, Some, None, Result, Err, Opening}
+use Rattle.run_certify.proofs.Vocabulary.{IsAccepted, Fixed, fixed_of, EndedJob, Served, Begin, Step, Forget, Lack, Decided, decisions, World, opening, step, Item, CertifyFault, AgentEntry, Asked, Begun, Ended, Forgot, Lacked, IsCertified}
+use Rattle.run_certify.proofs.Vocabulary.{IsCertifiedAs, can_all_be_told, ItemAt, IsMerge, item_by, served_as, transcript_of, weave, AreAllPlayed, IsTaken, at_server, IsTurn, is_asked, AskedFails, AskedGoes, EntryFails, EntryGoes, Fails, Goes}
+use Rattle.run_certify.proofs.Vocabulary.{IsItemTaken, IsLeft, IsOfRun, IsShorter, IsSound, IsStart, IsUse, Walked}
 use Rattle.run_certify.proofs.Counted.{count_opens}
 use Rattle.run_certify.proofs.Deciding.{opens}
 use Rattle.run_certify.proofs.Facts.{no_agent, unserved}
@@ -32,12 +32,10 @@ taken_less was now server item taken = subst (λ hs. left_in hs < left_in was) (
 
 -- an item was taken, and played
 pub item_goes : (init cur mid new : Walked) (server : ℕ) (item : Item) → Goes init [] cur [] → IsItemTaken cur server item mid → Goes mid (at_server server item ∷ []) new [] → Goes init [] new []
-item_goes init cur mid new server item goes took more =
-    goes_further init cur new [] [] [] goes (goes_further cur mid new [] (at_server server item ∷ []) [] (taken_goes cur mid server item took.taken took.kept) more)
+item_goes init cur mid new server item goes took more = search (goes_further, taken_goes, arith)
 
 pub item_fails : (init cur mid : Walked) (server : ℕ) (item : Item) → Goes init [] cur [] → IsItemTaken cur server item mid → Fails mid (at_server server item ∷ []) → Fails init []
-item_fails init cur mid server item goes took fails =
-    fails_further init cur [] [] goes (fails_further cur mid [] (at_server server item ∷ []) (taken_goes cur mid server item took.taken took.kept) fails)
+item_fails init cur mid server item goes took fails = search (fails_further, taken_goes, arith)
 
 -- a stamp falls
 pub unmerged_fails : (init cur : Walked) → Goes init [] cur [] → ((items : List ItemAt) → IsMerge cur.histories items → ⊥) → Fails init []
@@ -56,22 +54,13 @@ module _ (cur mid new : Walked) (agent : ℕ) (entry : AgentEntry) (it : IsUse c
   same_histories = shorter.histories ∙ ap (λ (w : Walked). w.histories) it.kept
 
   pub less_of : length (transcript_of new.unused agent) < length (transcript_of cur.unused agent)
-  less_of =
-      let low : agent < length (slice_set cur.unused agent it.used.rest) = let long = long_set cur.unused agent it.used.rest in let there = it.used.there in omega (arith, long, there) in
-      let now_is : transcript_of new.unused agent ≡ shorter.rest = ap (λ us. transcript_of us agent) unused_is ∙ set_here (slice_set cur.unused agent it.used.rest) agent shorter.rest [] low in
-      let mid_is : transcript_of mid.unused agent ≡ it.used.rest = ap (λ us. transcript_of us agent) it.used.set ∙ set_here cur.unused agent it.used.rest [] it.used.there in
-      let a = ap length now_is in let b = ap length mid_is in let c = ap length it.used.first in let d = shorter.short in omega (arith, a, b, c, d)
+  less_of = search (slice_set, long_set, unused_is, set_here, arith)
 
   pub others_as_before : (i : ℕ) → i ≢ agent → transcript_of new.unused i ≡ transcript_of cur.unused i
-  others_as_before i apart =
-      ap (λ us. transcript_of us i) unused_is ∙ set_apart (slice_set cur.unused agent it.used.rest) agent i shorter.rest [] apart ∙ set_apart cur.unused agent i it.used.rest [] apart
+  others_as_before i apart = grind (unused_is, set_apart, slice_set, arith)
 
 pub other_than_asked : (entry : AgentEntry) → ((server stamp : ℕ) → entry ≡ Asked server stamp → ⊥) → is_asked entry ≡ false
-other_than_asked (Begun job) other = refl
-other_than_asked (Asked server stamp) other = absurd (other server stamp refl)
-other_than_asked (Lacked server why) other = refl
-other_than_asked (Forgot site) other = refl
-other_than_asked (Ended outcome) other = refl
+other_than_asked entry h1 = search arith
 
 -- an end is no entry to be played
 pub no_play : (old : Walked) (agent : ℕ) (entry : AgentEntry) → is_asked entry ≡ false → ((server : ℕ) × (stamp : ℕ) × (entry ≡ Asked server stamp)) ⊎ ((outcome : EndedJob) × (entry ≡ Ended outcome)) → EntryFails agent entry old
@@ -179,39 +168,19 @@ nothing_past (es ∷ unused) (suc i) past = nothing_past unused i (omega arith)
 
 -- nothing is left of any
 pub none_at_all : (unused : List (List AgentEntry)) (agents : ℕ) → length unused ≤ agents → NoneBefore agents unused → (agent : ℕ) → transcript_of unused agent ≡ []
-none_at_all unused agents long before agent = ⊎_elim (λ (l : agent < agents). before agent l) (λ (l : agents ≤ agent). nothing_past unused agent (omega arith)) (lt_or agent agents)
-  where
-    lt_or : (a b : ℕ) → (a < b) ⊎ (b ≤ a)
-    lt_or a zero = inr (omega arith)
-    lt_or zero (suc b) = inl (omega arith)
-    lt_or (suc a) (suc b) = ⊎_elim (λ (l : a < b). inl (omega arith)) (λ (l : b ≤ a). inr (omega arith)) (lt_or a b)
+none_at_all unused agents long before agent = search (nothing_past, arith)
 
 -- ---- from the start to the end
 
 module _ (given : Opening) (histories : List (List Item)) (transcripts : List (List AgentEntry)) (start : Walked) (is : IsStart given histories transcripts start) where
   start_sound : IsAccepted given → IsSound start
-  start_sound accepted = record {
-    accepted = subst (λ g. IsAccepted g) (sym is.given_is) accepted;
-    same = is.settings ∙ sym is.given_is;
-    played = subst (λ w. IsPlayed start.given w start.begun.jobs) (sym (is.world ∙ ap opening (sym is.given_is))) (opens start.given start.begun.jobs);
-    counted = subst (λ w. AreCounted w start.begun.counts) (sym is.world) (count_opens given start.begun.counts is.none);
-    jobs_there = is.jobs_there ∙ sym (ap length is.unused);
-    counts_there = is.counts_there ∙ sym (ap length is.unused);
-  }
+  start_sound accepted = search (opens, count_opens, arith)
 
   to_start : (ds : List Decided) → IsLeft (fixed_of given) (opening given) [] histories transcripts ds → IsLeft (fixed_of start.given) start.world [] start.histories start.unused ds
-  to_start ds left =
-      subst (λ g. IsLeft (fixed_of g) start.world [] start.histories start.unused ds) (sym is.given_is)
-      (subst (λ w. IsLeft (fixed_of given) w [] start.histories start.unused ds) (sym is.world)
-      (subst (λ hs. IsLeft (fixed_of given) (opening given) [] hs start.unused ds) (sym is.histories_are)
-      (subst (λ us. IsLeft (fixed_of given) (opening given) [] histories us ds) (sym is.unused) left)))
+  to_start ds left = search arith
 
   from_start : (ds : List Decided) → IsLeft (fixed_of start.given) start.world [] start.histories start.unused ds → IsLeft (fixed_of given) (opening given) [] histories transcripts ds
-  from_start ds left =
-      subst (λ us. IsLeft (fixed_of given) (opening given) [] histories us ds) is.unused
-      (subst (λ hs. IsLeft (fixed_of given) (opening given) [] hs start.unused ds) is.histories_are
-      (subst (λ w. IsLeft (fixed_of given) w [] start.histories start.unused ds) is.world
-      (subst (λ g. IsLeft (fixed_of g) start.world [] start.histories start.unused ds) is.given_is left)))
+  from_start ds left = search arith
 
   -- what is certified is of a run
   of_run : (certified : IsCertified given histories transcripts) → IsOfRun start [] (decisions given (weave certified.items transcripts))

@@ -1,6 +1,5 @@
 -- Lists of which an element is set, and first elements.
-use Rattle.run_certify.proofs.Vocabulary.{◌≡◌, ◌≢◌, ◌⊎◌, ⊎_elim, inl, inr, ℕ, zero, suc, ◌<◌, ◌≤◌, true, false, List, [], ◌∷◌, ◌++◌, length, map, slice_set, refl, ap, sym, arith, nat_tests, append_cancel_left, nat_eq, slice_index_or}
-use Rattle.run_certify.proofs.Vocabulary.{Option, Some, None, cons_option}
+use Rattle.run_certify.proofs.Vocabulary.{◌≡◌, ◌≢◌, ◌⊎◌, ⊎_elim, inl, inr, ℕ, zero, suc, ◌<◌, ◌≤◌, true, false, List, [], ◌∷◌, ◌++◌, length, map, slice_set, refl, ap, sym, arith, nat_tests, nat_eq, slice_index_or, Option, cons_option}
 
 pub set_here : {A : Type 0} (xs : List A) (i : ℕ) (x d : A) → i < length xs → slice_index_or (slice_set xs i x) i d ≡ x
 set_here [] i x d low = absurd (omega arith)
@@ -68,12 +67,10 @@ pub no_cons : {A : Type 0} (x : A) (xs : List A) → [] ≡ x ∷ xs → ⊥
 no_cons x xs e = let h = ap length e in omega arith
 
 pub cons_cancel : {X : Type 0} (o : Option X) (xs ys : List X) → cons_option o xs ≡ cons_option o ys → xs ≡ ys
-cons_cancel None xs ys e = e
-cons_cancel (Some x) xs ys e = append_cancel_left (x ∷ []) xs ys e
+cons_cancel o xs ys h3 = search arith
 
 pub cons_append : {X : Type 0} (o : Option X) (xs ys : List X) → cons_option o xs ++ ys ≡ cons_option o (xs ++ ys)
-cons_append None xs ys = refl
-cons_append (Some x) xs ys = refl
+cons_append o xs ys = search arith
 
 pub empty_of : {A : Type 0} (xs : List A) → length xs ≡ 0 → xs ≡ []
 empty_of [] e = refl

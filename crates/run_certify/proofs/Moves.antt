@@ -1,12 +1,12 @@
 -- What is left before an event is played, and after it: of any machine.
-use Rattle.run_certify.proofs.Vocabulary.{◌≡◌, ◌≢◌, ◌⊎◌, ⊎_elim, ℕ, ◌<◌, Bool, true, false, List, [], ◌∷◌, ◌++◌, length, slice_set, subst, refl, ap, ◌∙◌, sym, arith, Option, Some, None, cons_option, EndedJob, Event, Step, Item, AgentEntry}
-use Rattle.run_certify.proofs.Vocabulary.{Asked, Ended, ItemAt, IsMerge, history_of, event_of, operated, transcript_of, weave, agent_of, asker, AreAllPlayed, IsLeast, at_server, IsTurn, is_asked}
+use Rattle.run_certify.proofs.Vocabulary.{◌≡◌, ◌≢◌, ◌⊎◌, ℕ, ◌<◌, Bool, true, false, List, [], ◌∷◌, ◌++◌, length, slice_set, subst, refl, ap, ◌∙◌, sym, arith, Option, Some, None, cons_option, EndedJob, Event, Step, Item, AgentEntry, Asked, Ended}
+use Rattle.run_certify.proofs.Vocabulary.{ItemAt, IsMerge, history_of, event_of, operated, transcript_of, weave, agent_of, asker, AreAllPlayed, IsLeast, at_server, IsTurn, is_asked}
 use Rattle.run_certify.proofs.Ends.{merge_none, none_merge, weave_empty, weave_ended, weave_rest}
-use Rattle.run_certify.proofs.Lists.{long_set, no_cons, same_head, set_again, set_here}
+use Rattle.run_certify.proofs.Lists.{long_set, no_cons, set_again, set_here}
 use Rattle.run_certify.proofs.Picking.{picked, picks}
 use Rattle.run_certify.proofs.Refuting as refuting
-use Rattle.run_certify.proofs.Steps.{AreOf, Fits, decided_in, goes_back, goes_on, no_sense, operator_back, operator_on, puts_first, serves_first}
-use Rattle.run_certify.proofs.Weaving.{weave_asked, weave_operator, weave_other}
+use Rattle.run_certify.proofs.Steps.{AreOf, Fits, decided_in, goes_back, goes_on, no_sense, puts_first, serves_first}
+use Rattle.run_certify.proofs.Weaving.{weave_asked, weave_other}
 
 pub turn_of_item : (one : ItemAt) (histories : List (List Item)) (unused : List (List AgentEntry)) (agent : ℕ) → one.item.agent ≡ Some agent → agent < length unused → IsTurn (one ∷ []) histories unused agent
 turn_of_item one histories unused agent of low = λ y ys at other items merge. weave_other one items unused agent y ys of low at other
@@ -19,11 +19,7 @@ turn_of_rest histories unused agent empty before low = λ y ys at other items me
 -- a job that ended is put down next, or none ended
 pub same_after : (unused : List (List AgentEntry)) (agent : ℕ) (ys rest : List AgentEntry) → agent < length unused → (ys ≡ rest) ⊎ ((outcome : EndedJob) × (ys ≡ Ended outcome ∷ rest)) → (items : List ItemAt)
     → weave items (slice_set unused agent ys) ≡ weave items (slice_set unused agent rest)
-same_after unused agent ys rest low how items = ⊎_elim
-    (λ (e : ys ≡ rest). ap (λ es. weave items (slice_set unused agent es)) e)
-    (λ (h : (outcome : EndedJob) × (ys ≡ Ended outcome ∷ rest)).
-    weave_ended items (slice_set unused agent ys) agent h.0 rest (let l = long_set unused agent ys in omega arith) (set_here unused agent ys [] low ∙ h.1) ∙ ap (λ us. weave items us) (set_again unused agent ys rest))
-    how
+same_after unused agent ys rest low how items = search (slice_set unused agent ys, long_set unused agent ys, set_here unused agent ys [] low, set_again unused agent ys rest, weave_ended, arith)
 
 module _ {W D : Type 0} (next : W → Event → W) (sense : W → Event → Bool) (serves : W → Event → Option ItemAt) (puts : W → Event → List AgentEntry) (decides : W → Event → Option D) where
   abbrev Of : W → List Event → List ItemAt → List (List AgentEntry) → Type 0
@@ -44,23 +40,12 @@ module _ {W D : Type 0} (next : W → Event → W) (sense : W → Event → Bool
   pub taken_back : (w : W) (histories : List (List Item)) (unused : List (List AgentEntry)) (server : ℕ) (item : Item) (rest : List Item) (ds : List D)
       → server < length histories → history_of histories server ≡ item ∷ rest → IsLeast (slice_set histories server rest) server item
       → IsLeft w (at_server server item ∷ []) (slice_set histories server rest) unused ds → IsLeft w [] histories unused ds
-  taken_back w histories unused server item rest ds low at least left = record {
-    items = at_server server item ∷ left.items;
-    merge = picked histories server item rest left.items low at least left.merge;
-    run = left.run;
-    is = left.is;
-  }
+  taken_back w histories unused server item rest ds low at least left = search (picked, arith)
 
   pub taken_on : (w : W) (histories : List (List Item)) (unused : List (List AgentEntry)) (server : ℕ) (item : Item) (rest : List Item) (ds : List D)
       → server < length histories → history_of histories server ≡ item ∷ rest → IsLeast histories server item
       → IsLeft w [] histories unused ds → IsLeft w (at_server server item ∷ []) (slice_set histories server rest) unused ds
-  taken_on w histories unused server item rest ds low at least left =
-      let one = picks histories server item rest left.items low at least left.merge in record {
-        items = one.0;
-        merge = one.2;
-        run = subst (λ xs. Of w (weave xs unused) xs unused) one.1 left.run;
-        is = left.is ∙ ap (λ xs. decided w (weave xs unused)) one.1;
-      }
+  taken_on w histories unused server item rest ds low at least left = search (picks, arith)
 
   -- ---- an entry without a stamp
 
@@ -79,13 +64,7 @@ module _ {W D : Type 0} (next : W → Event → W) (sense : W → Event → Bool
 
   fits : (w : W) (unused : List (List AgentEntry)) (agent : ℕ) (y : AgentEntry) (ys : List AgentEntry) (event : Event) (rest : List AgentEntry) (items : List ItemAt) → Plays w unused agent y ys event rest
       → Fits next sense serves puts decides w event agent items items unused rest
-  fits w unused agent y ys event rest items plays = record {
-    of = plays.of;
-    there = plays.there;
-    sense_is = plays.sense_is;
-    served = ap (λ o. cons_option o items) (sym plays.quiet);
-    told = plays.told;
-  }
+  fits w unused agent y ys event rest items plays = search arith
 
   spelt : (w : W) (taken : List ItemAt) (histories : List (List Item)) (unused : List (List AgentEntry)) (agent : ℕ) (y : AgentEntry) (ys : List AgentEntry) (event : Event) (rest : List AgentEntry) (items : List ItemAt)
       → IsTurn taken histories unused agent → Plays w unused agent y ys event rest → IsMerge histories items → weave (taken ++ items) unused ≡ event ∷ weave (taken ++ items) (slice_set unused agent rest)
@@ -184,13 +163,7 @@ module _ {W D : Type 0} (next : W → Event → W) (sense : W → Event → Bool
   pub asked_so : (w : W) (one : ItemAt) (histories : List (List Item)) (unused : List (List AgentEntry)) (agent server stamp : ℕ) (ys : List AgentEntry) (ds : List D)
       → one.item.agent ≡ Some agent → transcript_of unused agent ≡ Asked server stamp ∷ ys → IsLeft w (one ∷ []) histories unused ds
       → (sense w (Step agent) ≡ true) × ((rest : List AgentEntry) × (transcript_of unused agent ≡ puts w (Step agent) ++ rest)) × ((what : ItemAt) → serves w (Step agent) ≡ Some what → one ≡ what)
-  asked_so w one histories unused agent server stamp ys ds of at left =
-      let events : List Event = weave left.items (slice_set unused agent ys) in
-      let run : Of w (Step agent ∷ events) (one ∷ left.items) unused = subst (λ es. Of w es (one ∷ left.items) unused) (weave_asked one left.items unused agent server stamp ys of at) left.run in (
-        run.sense_is.0,
-        puts_first next sense serves puts decides w (Step agent) agent events (one ∷ left.items) unused refl run,
-        λ what is. let h = serves_first next sense serves puts decides w (Step agent) events (one ∷ left.items) unused what is run in same_head one what left.items h.0 h.1,
-      )
+  asked_so w one histories unused agent server stamp ys ds of at left = search arith
 
   -- once no items are left it has sense, and serves nothing
   pub rest_so : (w : W) (histories : List (List Item)) (unused : List (List AgentEntry)) (agent server stamp : ℕ) (ys : List AgentEntry) (ds : List D)
@@ -210,37 +183,12 @@ module _ {W D : Type 0} (next : W → Event → W) (sense : W → Event → Bool
   pub operated_back : (w : W) (one : ItemAt) (event : Event) (histories : List (List Item)) (unused : List (List AgentEntry)) (ds : List D) → one.item.agent ≡ None → operated one.server one.item.request.value ≡ event ∷ []
       → agent_of event ≡ None → sense w event ≡ true → serves w event ≡ Some one → decides w event ≡ None
       → IsLeft (next w event) [] histories unused ds → IsLeft w (one ∷ []) histories unused ds
-  operated_back w one event histories unused ds of spells none sense_is served silent left =
-      let e : weave (one ∷ left.items) unused ≡ event ∷ weave left.items unused = weave_operator one left.items unused of ∙ ap (λ es. es ++ weave left.items unused) spells in
-      record {
-        items = left.items;
-        merge = left.merge;
-        run = subst (λ es. Of w es (one ∷ left.items) unused) (sym e) (operator_back next sense serves puts decides w event _ (one ∷ left.items) left.items unused
-            (record { of = none; sense_is = sense_is; served = ap (λ o. cons_option o left.items) (sym served) }) left.run);
-        is = left.is ∙ sym (decided_after w event _ silent) ∙ sym (ap (λ es. decided w es) e);
-      }
+  operated_back w one event histories unused ds of spells none sense_is served silent left = search arith
 
   pub operated_on : (w : W) (one : ItemAt) (event : Event) (histories : List (List Item)) (unused : List (List AgentEntry)) (ds : List D) → one.item.agent ≡ None → operated one.server one.item.request.value ≡ event ∷ []
       → agent_of event ≡ None → sense w event ≡ true → serves w event ≡ Some one → decides w event ≡ None
       → IsLeft w (one ∷ []) histories unused ds → IsLeft (next w event) [] histories unused ds
-  operated_on w one event histories unused ds of spells none sense_is served silent left =
-      let e : weave (one ∷ left.items) unused ≡ event ∷ weave left.items unused = weave_operator one left.items unused of ∙ ap (λ es. es ++ weave left.items unused) spells in
-      record {
-        items = left.items;
-        merge = left.merge;
-        run = operator_on next sense serves puts decides w event _ (one ∷ left.items) left.items unused (record { of = none; sense_is = sense_is; served = ap (λ o. cons_option o left.items) (sym served) })
-            (subst (λ es. Of w es (one ∷ left.items) unused) e left.run);
-        is = left.is ∙ ap (λ es. decided w es) e ∙ decided_after w event _ silent;
-      }
-
-  pub operated_so : (w : W) (one : ItemAt) (event : Event) (histories : List (List Item)) (unused : List (List AgentEntry)) (ds : List D) → one.item.agent ≡ None → operated one.server one.item.request.value ≡ event ∷ []
-      → IsLeft w (one ∷ []) histories unused ds → (sense w event ≡ true) × ((what : ItemAt) → serves w event ≡ Some what → one ≡ what)
-  operated_so w one event histories unused ds of spells left =
-      let events : List Event = weave left.items unused in
-      let run : Of w (event ∷ events) (one ∷ left.items) unused = subst (λ es. Of w es (one ∷ left.items) unused) (weave_operator one left.items unused of ∙ ap (λ es. es ++ weave left.items unused) spells) left.run in (
-        run.sense_is.0,
-        λ what is. let h = serves_first next sense serves puts decides w event events (one ∷ left.items) unused what is run in same_head one what left.items h.0 h.1,
-      )
+  operated_on w one event histories unused ds of spells none sense_is served silent left = search arith
 
   -- ---- what is never left
 
@@ -248,8 +196,7 @@ module _ {W D : Type 0} (next : W → Event → W) (sense : W → Event → Bool
       → ((w : W) (event : Event) (outcome : EndedJob) (rest : List AgentEntry) → puts w event ≢ Ended outcome ∷ rest)
       → (w : W) (taken : List ItemAt) (histories : List (List Item)) (unused : List (List AgentEntry)) (agent : ℕ) (outcome : EndedJob) (rest : List AgentEntry) (ds : List D)
       → transcript_of unused agent ≡ Ended outcome ∷ rest → ¬ (IsLeft w taken histories unused ds)
-  ended_first asks each w taken histories unused agent outcome rest ds at left =
-      refuting.no_end_first next sense serves puts decides asks each w (weave (taken ++ left.items) unused) (taken ++ left.items) unused agent outcome rest at left.run
+  ended_first asks each w taken histories unused agent outcome rest ds at left = search (refuting.no_end_first, arith)
 
   pub nothing_of : ((w : W) (event : Event) (what : ItemAt) → serves w event ≡ Some what → what.item.agent ≡ asker event) → (w : W) (one : ItemAt) (histories : List (List Item)) (unused : List (List AgentEntry)) (agent : ℕ) (ds : List D)
       → one.item.agent ≡ Some agent → transcript_of unused agent ≡ [] → ¬ (IsLeft w (one ∷ []) histories unused ds)
@@ -264,11 +211,4 @@ module _ {W D : Type 0} (next : W → Event → W) (sense : W → Event → Bool
   -- ---- nothing is left
 
   pub all_done : (w : W) (histories : List (List Item)) (unused : List (List AgentEntry)) → AreAllPlayed histories → ((agent : ℕ) → transcript_of unused agent ≡ []) → IsLeft w [] histories unused []
-  all_done w histories unused empty none =
-      let e = weave_empty unused none in
-      record {
-        items = [];
-        merge = none_merge histories empty;
-        run = subst (λ es. Of w es [] unused) (sym e) (record { sense_is = tt; served = refl; told = λ agent. sym (none agent) });
-        is = sym (ap (λ es. decided w es) e);
-      }
+  all_done w histories unused empty none = search (weave_empty, none_merge, arith)

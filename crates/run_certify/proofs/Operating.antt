@@ -1,36 +1,23 @@
 -- An item of the operator's is played.
-use Rattle.run_certify.proofs.Vocabulary.{◌≡◌, ◌⊎◌, ⊎_elim, inl, inr, ℕ, ◌≤◌, true, false, true≢false, [], ◌∷◌, length, subst, refl, ap, ◌∙◌, sym, arith, is_some, Option, Some, None, Request, Fixed, fixed_of, Done, Served, Event, Crash}
-use Rattle.run_certify.proofs.Vocabulary.{Return, decided, has_sense, Stepped, World, step, Item, counts_after, jobs_after, ItemAt, agent_of, asker, served_as, operated, at_server, Fails, Goes, IsEvent, IsSound, Walked}
+use Rattle.run_certify.proofs.Vocabulary.{◌≡◌, ◌⊎◌, ⊎_elim, ℕ, ◌≤◌, true, false, true≢false, [], ◌∷◌, length, refl, ap, ◌∙◌, sym, arith, Option, Some, None, Request, Fixed, fixed_of, Done, Event, Crash, Return, decided, has_sense, Stepped, World}
+use Rattle.run_certify.proofs.Vocabulary.{step, Item, counts_after, jobs_after, ItemAt, agent_of, asker, served_as, operated, at_server, Fails, Goes, IsEvent, IsSound, Walked}
 use Rattle.rep_core.specs.declared.request.Request.TheVariants as request
 use Rattle.run_certify.proofs.Deciding.{decides_nothing}
 use Rattle.run_certify.proofs.Facts.{no_crash, no_return}
 use Rattle.run_certify.proofs.Events.{event_after}
 use Rattle.run_certify.proofs.Lengths as lengths
-use Rattle.run_certify.proofs.Lists.{no_cons, same_head}
 use Rattle.run_certify.proofs.Walking.{operated_fails, operated_goes, operator_fails}
 
 pub which : (server : ℕ) (asked : Request) (event : Event) → operated server asked ≡ event ∷ [] → (event ≡ Crash server) ⊎ (event ≡ Return server)
-which server request.Crash event spells = inl (sym (same_head (Crash server) event [] [] spells))
-which server request.Return event spells = inr (sym (same_head (Return server) event [] [] spells))
-which server _ event spells = absurd (no_cons event [] spells)
-
-some_served : (who : Option ℕ) (served : Option Served) (one : ItemAt) → served_as who served ≡ Some one → is_some served ≡ true
-some_served who (Some what) one is = refl
-some_served who None one is = cc
+which server asked event h3 = search arith
 
 -- it was served, so it has sense
 pub operator_sense : (fixed : Fixed) (world : World) (server : ℕ) (asked : Request) (event : Event) (who : Option ℕ) (one : ItemAt) → operated server asked ≡ event ∷ [] → served_as who (step fixed world event).done.served ≡ Some one
     → has_sense fixed world event ≡ true
-operator_sense fixed world server asked event who one spells served = ⊎_elim
-    (λ (e : event ≡ Crash server). subst (λ v. has_sense fixed world v ≡ true) (sym e) (some_served who (step fixed world (Crash server)).done.served one (ap (λ v. served_as who (step fixed world v).done.served) (sym e) ∙ served)))
-    (λ (e : event ≡ Return server). subst (λ v. has_sense fixed world v ≡ true) (sym e) (some_served who (step fixed world (Return server)).done.served one (ap (λ v. served_as who (step fixed world v).done.served) (sym e) ∙ served)))
-    (which server asked event spells)
+operator_sense fixed world server asked event who one spells served = search arith
 
 pub nobody_asks : (server : ℕ) (asked : Request) (event : Event) → operated server asked ≡ event ∷ [] → (agent_of event ≡ None) × (asker event ≡ None)
-nobody_asks server asked event spells = ⊎_elim
-    (λ (e : event ≡ Crash server). (ap agent_of e, ap asker e))
-    (λ (e : event ≡ Return server). (ap agent_of e, ap asker e))
-    (which server asked event spells)
+nobody_asks server asked event spells = search arith
 
 pub operate_goes : (was now : Walked) (server : ℕ) (item : Item) (event : Event) (done : Done) → item.agent ≡ None → operated server item.request.value ≡ event ∷ [] → IsEvent was event done now
     → served_as item.agent done.served ≡ Some (at_server server item) → Goes was (at_server server item ∷ []) now []
@@ -43,10 +30,7 @@ operate_goes was now server item event done of spells played served =
     (silent fixed was.world server item.request.value event spells) (event_after was now event done played jobs counts)
   where
     silent : (fixed : Fixed) (world : World) (server : ℕ) (asked : Request) (event : Event) → operated server asked ≡ event ∷ [] → decided fixed world event ≡ None
-    silent fixed world server asked event spells = ⊎_elim
-        (λ (e : event ≡ Crash server). ap (λ v. decided fixed world v) e ∙ decides_nothing fixed world (Crash server) refl)
-        (λ (e : event ≡ Return server). ap (λ v. decided fixed world v) e ∙ decides_nothing fixed world (Return server) refl)
-        (which server asked event spells)
+    silent fixed world server asked event spells = search (decides_nothing, which, arith)
 
     jobs : jobs_after was.begun.jobs event ≡ was.begun.jobs
     jobs = ⊎_elim (λ (e : event ≡ Crash server). ap (λ v. jobs_after was.begun.jobs v) e) (λ (e : event ≡ Return server). ap (λ v. jobs_after was.begun.jobs v) e) (which server item.request.value event spells)
@@ -54,36 +38,9 @@ operate_goes was now server item event done of spells played served =
     counts : counts_after was.begun.counts event ≡ was.begun.counts
     counts = ⊎_elim (λ (e : event ≡ Crash server). ap (λ v. counts_after was.begun.counts v) e) (λ (e : event ≡ Return server). ap (λ v. counts_after was.begun.counts v) e) (which server item.request.value event spells)
 
--- what is served is not the item
-pub operate_fails : (was : Walked) (server : ℕ) (item : Item) (event : Event) → item.agent ≡ None → operated server item.request.value ≡ event ∷ []
-    → (served_as item.agent (step (fixed_of was.given) was.world event).done.served ≡ Some (at_server server item) → ⊥) → Fails was (at_server server item ∷ [])
-operate_fails was server item event of spells other =
-    let fixed : Fixed = fixed_of was.given in
-    let nobody = nobody_asks server item.request.value event spells in
-    operated_fails was (at_server server item) event of spells (λ sound sense same. ⊎_elim
-    (λ (n : served_as (asker event) (step fixed was.world event).done.served ≡ None). true≢false (sym sense ∙ no_sense fixed was.world server item.request.value event spells n))
-    (λ (h : (what : ItemAt) × (served_as (asker event) (step fixed was.world event).done.served ≡ Some what)).
-    other (ap (λ who. served_as who (step fixed was.world event).done.served) (of ∙ sym nobody.1) ∙ h.1 ∙ ap (λ o. Some o) (sym (same h.0 h.1))))
-    (none_or (served_as (asker event) (step fixed was.world event).done.served)))
-  where
-    none_or : (o : Option ItemAt) → (o ≡ None) ⊎ ((what : ItemAt) × (o ≡ Some what))
-    none_or None = inl refl
-    none_or (Some what) = inr (what, refl)
-
-    unserved : (who : Option ℕ) (served : Option Served) → served_as who served ≡ None → is_some served ≡ false
-    unserved who None is = refl
-    unserved who (Some what) is = cc
-
-    no_sense : (fixed : Fixed) (world : World) (server : ℕ) (asked : Request) (event : Event) → operated server asked ≡ event ∷ [] → served_as (asker event) (step fixed world event).done.served ≡ None → has_sense fixed world event ≡ false
-    no_sense fixed world server asked event spells none = ⊎_elim
-        (λ (e : event ≡ Crash server). subst (λ v. has_sense fixed world v ≡ false) (sym e) (unserved None (step fixed world (Crash server)).done.served (ap (λ v. served_as (asker v) (step fixed world v).done.served) (sym e) ∙ none)))
-        (λ (e : event ≡ Return server). subst (λ v. has_sense fixed world v ≡ false) (sym e) (unserved None (step fixed world (Return server)).done.served (ap (λ v. served_as (asker v) (step fixed world v).done.served) (sym e) ∙ none)))
-        (which server asked event spells)
-
 pub operate_otherwise : (was now : Walked) (server : ℕ) (item : Item) (event : Event) (done : Done) → item.agent ≡ None → operated server item.request.value ≡ event ∷ [] → IsEvent was event done now
     → (served_as item.agent done.served ≡ Some (at_server server item) → ⊥) → Fails was (at_server server item ∷ [])
-operate_otherwise was now server item event done of spells played other =
-    operate_fails was server item event of spells (λ served. other (ap (λ (s : Stepped). served_as item.agent s.done.served) (sym played.is) ∙ served))
+operate_otherwise was now server item event done of spells played other = search arith
 
 -- its number is above those that servers have
 pub operator_far : (was : Walked) (server : ℕ) (item : Item) → item.agent ≡ None → 256 ≤ server → Fails was (at_server server item ∷ [])

@@ -1,6 +1,6 @@
 -- The next item of all histories.
-use Rattle.run_certify.proofs.Vocabulary.{◌≡◌, ◌≢◌, ⊎_elim, inl, inr, ℕ, ◌<◌, ◌≤◌, List, [], ◌∷◌, length, slice_set, subst, ap, ◌∙◌, sym, arith, if◌then◌else◌, Some, None, cons_option, Item, ItemAt, MayPrecede, IsMerge, IsOrdered}
-use Rattle.run_certify.proofs.Vocabulary.{history_of, items_of, IsLeast, at_server}
+use Rattle.run_certify.proofs.Vocabulary.{◌≡◌, ◌≢◌, ⊎_elim, ℕ, ◌<◌, ◌≤◌, List, [], ◌∷◌, length, slice_set, subst, ap, ◌∙◌, sym, arith, if◌then◌else◌, Some, None, cons_option, Item, ItemAt, MayPrecede, IsMerge, IsOrdered, history_of, items_of}
+use Rattle.run_certify.proofs.Vocabulary.{IsLeast, at_server}
 use Rattle.run_certify.proofs.Lists.{set_here, set_apart, same_or, eq_same, eq_apart, same_head, same_tail, no_cons}
 
 -- ---- items of servers
@@ -14,33 +14,19 @@ apart_of server other item items apart = ap (λ b. cons_option (if b then Some i
 -- ---- the order
 
 precede_trans : (a b c : ItemAt) → MayPrecede a b → MayPrecede b c → MayPrecede a c
-precede_trans a b c = ⊎_elim
-    (λ (x : a.item.stamp < b.item.stamp). ⊎_elim (λ (y : b.item.stamp < c.item.stamp). inl (omega arith)) (λ (y : (b.item.stamp ≡ c.item.stamp) × (b.server ≤ c.server)). inl (let e = y.0 in omega arith)))
-    (λ (x : (a.item.stamp ≡ b.item.stamp) × (a.server ≤ b.server)). ⊎_elim (λ (y : b.item.stamp < c.item.stamp). inl (let e = x.0 in omega arith))
-    (λ (y : (b.item.stamp ≡ c.item.stamp) × (b.server ≤ c.server)). inr (x.0 ∙ y.0, (let l = x.1 in let m = y.1 in omega arith))))
+precede_trans a b c = search arith
 
 -- each before the other is of one server
 precede_both : (a b : ItemAt) → MayPrecede a b → MayPrecede b a → a.server ≡ b.server
-precede_both a b = ⊎_elim
-    (λ (x : a.item.stamp < b.item.stamp). ⊎_elim (λ (y : b.item.stamp < a.item.stamp). absurd (omega arith)) (λ (y : (b.item.stamp ≡ a.item.stamp) × (b.server ≤ a.server)). absurd (let e = y.0 in omega arith)))
-    (λ (x : (a.item.stamp ≡ b.item.stamp) × (a.server ≤ b.server)). ⊎_elim (λ (y : b.item.stamp < a.item.stamp). absurd (let e = x.0 in omega arith))
-    (λ (y : (b.item.stamp ≡ a.item.stamp) × (b.server ≤ a.server)). let l = x.1 in let m = y.1 in omega arith))
+precede_both a b = search arith
 
 ordered_tail : (one : ItemAt) (later : List ItemAt) → IsOrdered (one ∷ later) → IsOrdered later
-ordered_tail one [] ordered = tt
-ordered_tail one (next ∷ later) ordered = ordered.1
+ordered_tail one later h2 = search arith
 
 -- the first item of a server stands after what stands before
 ordered_has : (one : ItemAt) (later : List ItemAt) (server : ℕ) (item : Item) (rest : List Item) → IsOrdered (one ∷ later) → items_of server later ≡ item ∷ rest → MayPrecede one (at_server server item)
 ordered_has one [] server item rest ordered has = absurd (no_cons item rest has)
-ordered_has one (next ∷ later) server item rest ordered has = ⊎_elim
-    (λ (e : server ≡ next.server).
-    let same : next.item ≡ item = same_head next.item item _ rest (sym (here_of next.server next.item later) ∙ ap (λ s. items_of s (next ∷ later)) (sym e) ∙ has) in
-    let is : next ≡ at_server server item = ap (λ s. at_server s next.item) (sym e) ∙ ap (λ i. at_server server i) same in
-    subst (λ (n : ItemAt). MayPrecede one n) is ordered.0)
-    (λ (n : server ≢ next.server). precede_trans one next (at_server server item) ordered.0
-    (ordered_has next later server item rest ordered.1 (sym (apart_of next.server server next.item later n) ∙ has)))
-    (same_or server next.server)
+ordered_has one (next ∷ later) server item rest ordered has = search (same_head, here_of, precede_trans, apart_of, same_or, ordered_has next later server item rest, arith)
 
 -- ---- the next item
 
@@ -60,11 +46,7 @@ picks histories server item rest (one ∷ later) low at least merge =
       ap (λ o. o ∷ later) is,
       record {
         ordered = ordered_tail one later merge.ordered;
-        each = λ other. ⊎_elim
-            (λ (e : other ≡ server). subst (λ s. items_of s later ≡ history_of (slice_set histories server rest) s) (sym e)
-            (ap (λ s. items_of s later) same ∙ sym (same_tail item one.item rest _ both) ∙ sym (set_here histories server rest [] low)))
-            (λ (n : other ≢ server). sym (apart_of one.server other one.item later (λ e. n (e ∙ sym same))) ∙ merge.each other ∙ sym (set_apart histories server other rest [] n))
-            (same_or other server);
+        each = search (slice_set, same_tail, set_here, apart_of, set_apart, same_or, arith);
       },
     )
 
@@ -73,11 +55,7 @@ pub picked : (histories : List (List Item)) (server : ℕ) (item : Item) (rest :
     → IsLeast (slice_set histories server rest) server item → IsMerge (slice_set histories server rest) later → IsMerge histories (at_server server item ∷ later)
 picked histories server item rest later low at least merge = record {
   ordered = first_ordered later merge;
-  each = λ other. ⊎_elim
-      (λ (e : other ≡ server). subst (λ s. items_of s (at_server server item ∷ later) ≡ history_of histories s) (sym e)
-      (here_of server item later ∙ ap (λ xs. item ∷ xs) (merge.each server ∙ set_here histories server rest [] low) ∙ sym at))
-      (λ (n : other ≢ server). apart_of server other item later n ∙ merge.each other ∙ set_apart histories server other rest [] n)
-      (same_or other server);
+  each = search (here_of, set_here, apart_of, set_apart, same_or, arith);
 }
   where
     first_ordered : (later : List ItemAt) → IsMerge (slice_set histories server rest) later → IsOrdered (at_server server item ∷ later)

@@ -1,7 +1,7 @@
 -- An entry that was used is played.
-use Rattle.run_certify.proofs.Vocabulary.{◌≡◌, ◌≢◌, ◌⊎◌, ⊎_elim, inl, inr, ℕ, zero, suc, ◌<◌, ◌≤◌, Bool, true, false, List, [], ◌∷◌, ◌++◌, length, slice_set, subst, refl, ap, ◌∙◌, sym, arith, append_assoc, ◌&&◌, nat_lt, slice_index_or}
-use Rattle.run_certify.proofs.Vocabulary.{Option, Some, None, Opening, Job, fixed_of, max_jobs, asked_at, asked_by, Done, EndedJob, Event, Begin, Lack, Forget, Decided, has_sense, actor_at, has_no_job, step, AgentEntry, Begun, Ended, Forgot}
-use Rattle.run_certify.proofs.Vocabulary.{Lacked, count_at, ended, lacked, served_as, transcript_of, EndsOtherwise, HasEnded, EntryFails, EntryGoes, IsBegin, IsEnd, IsEvent, IsShorter, IsSound, IsUse, Walked}
+use Rattle.run_certify.proofs.Vocabulary.{◌≡◌, ◌≢◌, ◌⊎◌, ⊎_elim, inl, ℕ, zero, suc, ◌<◌, ◌≤◌, Bool, true, false, List, [], ◌∷◌, ◌++◌, length, slice_set, subst, refl, ap, ◌∙◌, sym, arith, append_assoc, ◌&&◌, nat_lt, slice_index_or, Option, Some, None}
+use Rattle.run_certify.proofs.Vocabulary.{Opening, Job, fixed_of, max_jobs, asked_at, asked_by, Done, EndedJob, Event, Begin, Lack, Forget, Decided, has_sense, actor_at, has_no_job, step, AgentEntry, Begun, Ended, Forgot, Lacked, count_at, ended}
+use Rattle.run_certify.proofs.Vocabulary.{lacked, served_as, EndsOtherwise, HasEnded, EntryFails, EntryGoes, IsBegin, IsEnd, IsEvent, IsShorter, IsSound, IsUse, Walked}
 use Rattle.std.proofs.lemmas.List.{append-nil}
 use Rattle.rep_core.specs.declared.stamped.Lack.{Lack as Why}
 use Rattle.txn_core.specs.Agents as agents
@@ -16,24 +16,14 @@ use Rattle.run_certify.proofs.Walking.{IsAfter, entry_goes, entry_senseless, ent
 -- ---- where an entry was used
 
 pub use_sound : (was old : Walked) (agent : ℕ) (entry : AgentEntry) → IsUse was agent entry old → IsSound was → IsSound old
-use_sound was old agent entry it sound =
-    subst IsSound (sym it.kept) (record {
-      accepted = sound.accepted;
-      same = sound.same;
-      played = sound.played;
-      counted = sound.counted;
-      jobs_there = sound.jobs_there ∙ sym (ap length it.used.set ∙ long_set was.unused agent it.used.rest);
-      counts_there = sound.counts_there ∙ sym (ap length it.used.set ∙ long_set was.unused agent it.used.rest);
-    })
+use_sound was old agent entry it sound = search (long_set, arith)
 
 use_sense : (was old : Walked) (agent : ℕ) (entry : AgentEntry) (event : Event) (b : Bool) → IsUse was agent entry old
     → (IsSound old → has_sense (fixed_of old.given) old.world event ≡ b) → IsSound was → has_sense (fixed_of was.given) was.world event ≡ b
 use_sense was old agent entry event b it so sound = sym (ap (λ (w : Walked). has_sense (fixed_of w.given) w.world event) it.kept) ∙ so (use_sound was old agent entry it sound)
 
 pub after_use : (was old now : Walked) (agent : ℕ) (entry : AgentEntry) (event : Event) (left : List (List AgentEntry)) (ds : List Decided) → IsUse was agent entry old → IsAfter old event left ds now → IsAfter was event left ds now
-after_use was old now agent entry event left ds it after =
-    let so : IsAfter (record was { unused = old.unused }) event left ds now = subst (λ o. IsAfter o event left ds now) it.kept after in
-    record { settings = so.settings; given = so.given; world = so.world; histories = so.histories; unused = so.unused; jobs = so.jobs; counts = so.counts; made = so.made }
+after_use was old now agent entry event left ds it after = search arith
 
 -- ---- whether an agent may begin a job
 
@@ -105,15 +95,7 @@ pub record Ends (was : List (List AgentEntry)) (agent : ℕ) (ys : List AgentEnt
   pub set : now ≡ slice_set was agent rest
 
 pub ends : (was old now : List (List AgentEntry)) (agent : ℕ) (ys : List AgentEntry) (outcome : Option EndedJob) → agent < length was → old ≡ slice_set was agent ys → HasEnded old agent outcome now → Ends was agent ys outcome now
-ends was old now agent ys None low set so = record { rest = ys; past = inl refl; parts = refl; set = so ∙ set }
-ends was old now agent ys (Some outcome) low set so =
-    let at : ys ≡ Ended outcome ∷ so.rest = sym (set_here was agent ys [] low) ∙ sym (ap (λ us. transcript_of us agent) set) ∙ so.first in
-    record {
-      rest = so.rest;
-      past = inr (outcome, at);
-      parts = at;
-      set = so.set ∙ ap (λ us. slice_set us agent so.rest) set ∙ set_again was agent ys so.rest;
-    }
+ends was old now agent ys outcome h6 h7 h8 = search (set_here, slice_set, set_again, arith)
 
 pub lack_goes : (old now : Walked) (agent server : ℕ) (why : Why) → asked_at (fixed_of old.given) old.world agent ≡ Some server
     → HasEnded old.unused agent (step (fixed_of old.given) old.world (Lack agent why)).done.outcome now.unused → IsAfter old (Lack agent why) now.unused [] now → EntryGoes agent (Lacked server why) old now
@@ -132,8 +114,7 @@ lack_goes old now agent server why asks so after was taken it turn =
       has = λ sound. lack_sense fixed was.world agent server why asks';
       quiet = ap (λ what. served_as None what) (lack_serves_none fixed was.world agent why);
       silent = decides_nothing fixed was.world event refl;
-      told = it.used.first ∙ ap (λ es. Lacked server why ∷ es) end.parts
-          ∙ sym (ap (λ es. (es ++ ended (step fixed was.world event).done.outcome) ++ end.rest) (lack_puts fixed was.world agent server why asks'));
+      told = search (lack_puts, arith);
     })
     (after_use was old now agent (Lacked server why) event (slice_set was.unused agent end.rest) [] it (subst (λ us. IsAfter old event us [] now) end.set after))
 
@@ -147,8 +128,7 @@ lack_fails old agent server why other was taken it turn =
     (sym (append_assoc (lacked why (asked_by fixed (actor_at was.world agent))) (ended (step fixed was.world event).done.outcome) rest) ∙ sym told ∙ it.used.first))
 
 pub otherwise : (was old : List (List AgentEntry)) (agent : ℕ) (ys rest : List AgentEntry) (outcome : Option EndedJob) → agent < length was → old ≡ slice_set was agent ys → EndsOtherwise old agent outcome → ys ≡ ended outcome ++ rest → ⊥
-otherwise was old agent ys rest None low set not parts = not
-otherwise was old agent ys rest (Some outcome) low set not parts = not rest (ap (λ us. transcript_of us agent) set ∙ set_here was agent ys [] low ∙ parts)
+otherwise was old agent ys rest outcome h6 h7 h8 h9 = search (set_here, arith)
 
 pub lack_ends_otherwise : (old : Walked) (agent server : ℕ) (why : Why) → asked_at (fixed_of old.given) old.world agent ≡ Some server
     → EndsOtherwise old.unused agent (step (fixed_of old.given) old.world (Lack agent why)).done.outcome → EntryFails agent (Lacked server why) old
@@ -174,9 +154,7 @@ forgot_goes old now agent site done low small played = forget_goes old now agent
 
 pub lacked_goes : (old mid now : Walked) (agent server : ℕ) (why : Why) (done : Done) → asked_at (fixed_of old.given) old.world agent ≡ Some server → IsEvent old (Lack agent why) done mid → IsEnd mid agent done.outcome now
     → EntryGoes agent (Lacked server why) old now
-lacked_goes old mid now agent server why done asks played end =
-    lack_goes old now agent server why asks (ended_by old mid (Lack agent why) done played mid now agent refl end.ended)
-    (end_after old mid (Lack agent why) done played mid now [] agent done.outcome refl refl (ap (λ ds. record mid { made = ds }) (sym (append-nil mid.made))) end)
+lacked_goes old mid now agent server why done asks played end = search (lack_goes, ended_by, end_after, append-nil, arith)
 
 pub lacked_otherwise : (old mid : Walked) (agent server : ℕ) (why : Why) (done : Done) → asked_at (fixed_of old.given) old.world agent ≡ Some server → IsEvent old (Lack agent why) done mid → EndsOtherwise mid.unused agent done.outcome
     → EntryFails agent (Lacked server why) old
@@ -190,30 +168,16 @@ set_same (x ∷ xs) zero = refl
 set_same (x ∷ xs) (suc i) = ap (λ ys. x ∷ ys) (set_same xs i)
 
 pub no_longer : (old now : Walked) (agent : ℕ) → now.histories ≡ old.histories → now.unused ≡ old.unused → IsShorter old agent now
-no_longer old now agent histories unused = record {
-  histories = histories;
-  rest = transcript_of old.unused agent;
-  set = unused ∙ sym (set_same old.unused agent);
-  short = omega arith;
-}
+no_longer old now agent histories unused = search (set_same old.unused agent, arith)
 
 pub ended_shorter : (old now : Walked) (agent : ℕ) (outcome : Option EndedJob) → now.histories ≡ old.histories → HasEnded old.unused agent outcome now.unused → IsShorter old agent now
-ended_shorter old now agent None histories so = no_longer old now agent histories so
-ended_shorter old now agent (Some outcome) histories so = record {
-  histories = histories;
-  rest = so.rest;
-  set = so.set;
-  short = let long = ap length so.first in omega (arith, long);
-}
+ended_shorter old now agent outcome h4 h5 = search (no_longer, arith)
 
 pub event_shorter : (old now : Walked) (agent : ℕ) (event : Event) (done : Done) → IsEvent old event done now → IsShorter old agent now
 event_shorter old now agent event done played = no_longer old now agent (ap (λ (w : Walked). w.histories) played.kept) (ap (λ (w : Walked). w.unused) played.kept)
 
 pub begun_shorter : (old mid now : Walked) (agent : ℕ) (event : Event) (job : Job) (done : Done) → IsEvent old event done mid → IsBegin mid agent job now → IsShorter old agent now
-begun_shorter old mid now agent event job done played begun =
-    no_longer old now agent (ap (λ (w : Walked). w.histories) begun.kept ∙ ap (λ (w : Walked). w.histories) played.kept) (ap (λ (w : Walked). w.unused) begun.kept ∙ ap (λ (w : Walked). w.unused) played.kept)
+begun_shorter old mid now agent event job done played begun = search (no_longer, arith)
 
 pub lacked_shorter : (old mid now : Walked) (agent : ℕ) (event : Event) (done : Done) → IsEvent old event done mid → IsEnd mid agent done.outcome now → IsShorter old agent now
-lacked_shorter old mid now agent event done played end =
-    ended_shorter old now agent (step (fixed_of old.given) old.world event).done.outcome (ap (λ (w : Walked). w.histories) end.kept ∙ ap (λ (w : Walked). w.histories) played.kept)
-    (ended_by old mid event done played mid now agent refl end.ended)
+lacked_shorter old mid now agent event done played end = search (ended_shorter, ended_by, arith)

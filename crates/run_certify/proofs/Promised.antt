@@ -1,7 +1,6 @@
 -- The jobs that a woven run begins are those that agents put down; so it can be, and is promised.
-use Rattle.run_certify.proofs.Vocabulary.{ℕ, zero, suc, ◌+◌, List, [], ◌∷◌, slice_set, Option, Some, None, subst, IsValid, IsAccepted, Opening, Request, Item, CanBe, VotesAreValid, both, front, promised, AgentEntry, Asked, Begun, Ended}
-use Rattle.run_certify.proofs.Vocabulary.{Forgot, Lacked, ItemAt, CertifiedIsPromised, events_at, events_of, operated, past_stamp, rest_from, transcript_of, unused_at, up_to_stamp, weave, AllBegunAreValid, EntriesGiveValidVotes}
-use Rattle.rep_core.specs.declared.request.Request.TheVariants as request
+use Rattle.run_certify.proofs.Vocabulary.{ℕ, zero, suc, ◌+◌, List, [], ◌∷◌, slice_set, Option, subst, IsValid, IsAccepted, Opening, Request, Item, CanBe, VotesAreValid, both, front, promised, AgentEntry, Asked, Begun, Ended, arith, Forgot, Lacked}
+use Rattle.run_certify.proofs.Vocabulary.{ItemAt, CertifiedIsPromised, events_at, events_of, operated, past_stamp, rest_from, transcript_of, unused_at, up_to_stamp, weave, AllBegunAreValid, EntriesGiveValidVotes}
 
 -- ---- a transcript
 
@@ -42,17 +41,13 @@ events_valid agent (Forgot site ∷ entries) valid = (tt, events_valid agent ent
 events_valid agent (Ended outcome ∷ entries) valid = events_valid agent entries valid.1
 
 operated_valid : (server : ℕ) (asked : Request) → VotesAreValid (operated server asked)
-operated_valid server request.Crash = (tt, tt)
-operated_valid server request.Return = (tt, tt)
-operated_valid server _ = tt
+operated_valid server asked = search arith
 
 at_valid : (unused : List (List AgentEntry)) → AllBegunAreValid unused → (one : ItemAt) (who : Option ℕ) → VotesAreValid (events_at unused one who)
-at_valid unused valid one None = operated_valid one.server one.item.request.value
-at_valid unused valid one (Some agent) = events_valid agent (up_to_stamp (transcript_of unused agent)) (up_to_valid (transcript_of unused agent) (transcript_valid unused valid agent))
+at_valid unused h1 one who = search (operated_valid, events_valid, up_to_valid, transcript_valid, arith)
 
 unused_valid : (unused : List (List AgentEntry)) → AllBegunAreValid unused → (who : Option ℕ) → AllBegunAreValid (unused_at unused who)
-unused_valid unused valid None = valid
-unused_valid unused valid (Some agent) = set_valid unused valid agent (past_stamp (transcript_of unused agent)) (past_valid (transcript_of unused agent) (transcript_valid unused valid agent))
+unused_valid unused h1 who = search (set_valid, past_valid, transcript_valid, arith)
 
 rest_valid : (agent : ℕ) (unused : List (List AgentEntry)) → AllBegunAreValid unused → VotesAreValid (rest_from agent unused)
 rest_valid agent [] valid = tt
@@ -60,10 +55,7 @@ rest_valid agent (entries ∷ later) valid = both (events_of agent entries) (res
 
 weave_valid : (items : List ItemAt) (unused : List (List AgentEntry)) → AllBegunAreValid unused → VotesAreValid (weave items unused)
 weave_valid [] unused valid = rest_valid 0 unused valid
-weave_valid (one ∷ items) unused valid =
-    both (events_at unused one one.item.agent) (weave items (unused_at unused one.item.agent))
-    (at_valid unused valid one one.item.agent)
-    (weave_valid items (unused_at unused one.item.agent) (unused_valid unused valid one.item.agent))
+weave_valid (one ∷ items) unused valid = search (both, at_valid, unused_valid, weave_valid items, arith)
 
 -- ---- what is certified
 

@@ -1,6 +1,6 @@
 -- What refutes that events are of a run.
-use Rattle.run_certify.proofs.Vocabulary.{◌≡◌, ◌≢◌, ℕ, Bool, true, false, List, [], ◌∷◌, ◌++◌, length, subst, refl, ap, ◌∙◌, sym, arith, nat_eq, if◌then◌else◌, Option, Some, None, cons_option, Event, AgentEntry, Ended, EndedJob, ItemAt}
-use Rattle.run_certify.proofs.Vocabulary.{transcript_of, weave, agent_of, asker, if_of}
+use Rattle.run_certify.proofs.Vocabulary.{◌≡◌, ◌≢◌, ℕ, Bool, List, [], ◌∷◌, ◌++◌, length, subst, refl, ap, ◌∙◌, sym, arith, nat_eq, if◌then◌else◌, Option, Some, None, cons_option, Event, AgentEntry, Ended, EndedJob, ItemAt, transcript_of, weave}
+use Rattle.run_certify.proofs.Vocabulary.{agent_of, asker, if_of}
 use Rattle.run_certify.proofs.Lists.{head_or}
 use Rattle.run_certify.proofs.Steps.{AreOf, items_in, told_in}
 use Rattle.run_certify.proofs.Weaving.{NoSteps, no_steps}
@@ -26,8 +26,7 @@ module _ {W D : Type 0} (next : W → Event → W) (sense : W → Event → Bool
 
   -- an item of an agent of which nothing is left
   pub none_left : (w : W) (one : ItemAt) (items : List ItemAt) (unused : List (List AgentEntry)) (agent : ℕ) → one.item.agent ≡ Some agent → transcript_of unused agent ≡ [] → ¬ (Of w (weave (one ∷ items) unused) (one ∷ items) unused)
-  none_left w one items unused agent of none is =
-      (subst (λ xs. All (λ other. other.item.agent ≢ Some agent) xs) is.served (none_of agent w (weave (one ∷ items) unused) (no_steps (one ∷ items) unused agent none))).0 of
+  none_left w one items unused agent of none is = search (none_of agent w (weave (one ∷ items) unused) (no_steps (one ∷ items) unused agent none), no_steps (one ∷ items) unused agent none, arith)
 
   -- every item is one of some kind, if all that is served is
   all_served : (P : ItemAt → Type 0) → ((w : W) (event : Event) (what : ItemAt) → serves w event ≡ Some what → P what) → (w : W) (events : List Event) → All P (items_in next sense serves puts decides w events)
@@ -55,12 +54,10 @@ module _ {W D : Type 0} (next : W → Event → W) (sense : W → Event → Bool
       first (z ∷ xs) ys x y = λ outcome rest e. x outcome xs (ap (λ o. o ∷ xs) (ap (λ zs. head_or z zs) e))
 
       by_test : (b : Bool) → NoEnd (if b then puts w event else [])
-      by_test true = each w event
-      by_test false = λ outcome rest e. let h = ap length e in omega arith
+      by_test b = search arith
 
       by_agent : (o : Option ℕ) → (later : List AgentEntry) → NoEnd later → NoEnd (if_of o agent (puts w event) ++ later)
-      by_agent None later more = more
-      by_agent (Some other) later more = first (if_of (Some other) agent (puts w event)) later (by_test (nat_eq other agent)) more
+      by_agent o later h2 = search (first, by_test, nat_eq, arith)
 
   pub no_end_first : ((w : W) (event : Event) → NoEnd (puts w event)) → (w : W) (events : List Event) (items : List ItemAt) (unused : List (List AgentEntry)) (agent : ℕ)
       (outcome : EndedJob) (rest : List AgentEntry) → transcript_of unused agent ≡ Ended outcome ∷ rest

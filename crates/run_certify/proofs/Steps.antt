@@ -1,6 +1,6 @@
 -- One event of a run, and what is left after it: of any machine.
-use Rattle.run_certify.proofs.Vocabulary.{◌≡◌, ◌≢◌, ⊎_elim, ℕ, ◌<◌, Bool, true, false, true≢false, List, [], ◌∷◌, ◌++◌, length, slice_set, subst, ap, ◌∙◌, sym, if◌then◌else◌, Option, Some, None, cons_option, append_cancel_left, Event}
-use Rattle.run_certify.proofs.Vocabulary.{AgentEntry, ItemAt, transcript_of, agent_of, if_of}
+use Rattle.run_certify.proofs.Vocabulary.{◌≡◌, ◌≢◌, ℕ, ◌<◌, Bool, true, false, true≢false, List, [], ◌∷◌, ◌++◌, length, slice_set, ap, ◌∙◌, sym, if◌then◌else◌, Option, Some, None, cons_option, append_cancel_left, Event, arith, AgentEntry, ItemAt}
+use Rattle.run_certify.proofs.Vocabulary.{transcript_of, agent_of, if_of}
 use Rattle.run_certify.proofs.Lists.{cons_cancel, eq_apart, eq_same, same_or, set_apart, set_here}
 
 module _ {W D : Type 0} (next : W → Event → W) (sense : W → Event → Bool) (serves : W → Event → Option ItemAt) (puts : W → Event → List AgentEntry) (decides : W → Event → Option D) where
@@ -31,9 +31,6 @@ if_same agent o xs is = ap (λ p. if_of p agent xs) is ∙ ap (λ b. if b then x
 if_apart : (agent other : ℕ) (o : Option ℕ) (xs : List AgentEntry) → o ≡ Some agent → other ≢ agent → if_of o other xs ≡ []
 if_apart agent other o xs is apart = ap (λ p. if_of p other xs) is ∙ ap (λ b. if b then xs else []) (eq_apart agent other apart)
 
-if_none : (other : ℕ) (o : Option ℕ) (xs : List AgentEntry) → o ≡ None → if_of o other xs ≡ []
-if_none other o xs is = ap (λ p. if_of p other xs) is
-
 -- ---- an event of an agent
 
 module _ {W D : Type 0} (next : W → Event → W) (sense : W → Event → Bool) (serves : W → Event → Option ItemAt) (puts : W → Event → List AgentEntry) (decides : W → Event → Option D) where
@@ -53,54 +50,17 @@ module _ {W D : Type 0} (next : W → Event → W) (sense : W → Event → Bool
 
   pub goes_back : (w : W) (event : Event) (agent : ℕ) (events : List Event) (items later : List ItemAt) (unused : List (List AgentEntry)) (entries : List AgentEntry)
       → Fits w event agent items later unused entries → Of (next w event) events later (slice_set unused agent entries) → Of w (event ∷ events) items unused
-  goes_back w event agent events items later unused entries fits is = record {
-    sense_is = (fits.sense_is, is.sense_is);
-    served = ap (λ xs. cons_option (serves w event) xs) is.served ∙ sym fits.served;
-    told = λ other. ⊎_elim
-        (λ (e : other ≡ agent). subst (λ a. told a w (event ∷ events) ≡ transcript_of unused a) (sym e)
-        (ap (λ xs. xs ++ told agent (next w event) events) (if_same agent (agent_of event) (puts w event) fits.of)
-        ∙ ap (λ xs. puts w event ++ xs) (is.told agent ∙ set_here unused agent entries [] fits.there) ∙ sym fits.told))
-        (λ (n : other ≢ agent). ap (λ xs. xs ++ told other (next w event) events) (if_apart agent other (agent_of event) (puts w event) fits.of n)
-        ∙ is.told other ∙ set_apart unused agent other entries [] n)
-        (same_or other agent);
-  }
+  goes_back w event agent events items later unused entries fits is = search (if_same, set_here, if_apart, set_apart, same_or, arith)
 
   pub goes_on : (w : W) (event : Event) (agent : ℕ) (events : List Event) (items later : List ItemAt) (unused : List (List AgentEntry)) (entries : List AgentEntry)
       → Fits w event agent items later unused entries → Of w (event ∷ events) items unused → Of (next w event) events later (slice_set unused agent entries)
-  goes_on w event agent events items later unused entries fits is = record {
-    sense_is = is.sense_is.1;
-    served = cons_cancel (serves w event) _ later (is.served ∙ fits.served);
-    told = λ other. ⊎_elim
-        (λ (e : other ≡ agent). subst (λ a. told a (next w event) events ≡ transcript_of (slice_set unused agent entries) a) (sym e)
-        (append_cancel_left (puts w event) _ entries
-        (ap (λ xs. xs ++ told agent (next w event) events) (sym (if_same agent (agent_of event) (puts w event) fits.of)) ∙ is.told agent ∙ fits.told)
-        ∙ sym (set_here unused agent entries [] fits.there)))
-        (λ (n : other ≢ agent). ap (λ xs. xs ++ told other (next w event) events) (sym (if_apart agent other (agent_of event) (puts w event) fits.of n))
-        ∙ is.told other ∙ sym (set_apart unused agent other entries [] n))
-        (same_or other agent);
-  }
+  goes_on w event agent events items later unused entries fits is = search (cons_cancel, slice_set, append_cancel_left, if_same, set_here, if_apart, set_apart, same_or, arith)
 
   -- an event of the operator
   pub record FitsOperator (w : W) (event : Event) (items later : List ItemAt) : Type 0 where
     pub of : agent_of event ≡ None
     pub sense_is : sense w event ≡ true
     pub served : items ≡ cons_option (serves w event) later
-
-  pub operator_back : (w : W) (event : Event) (events : List Event) (items later : List ItemAt) (unused : List (List AgentEntry))
-      → FitsOperator w event items later → Of (next w event) events later unused → Of w (event ∷ events) items unused
-  operator_back w event events items later unused fits is = record {
-    sense_is = (fits.sense_is, is.sense_is);
-    served = ap (λ xs. cons_option (serves w event) xs) is.served ∙ sym fits.served;
-    told = λ other. ap (λ xs. xs ++ told other (next w event) events) (if_none other (agent_of event) (puts w event) fits.of) ∙ is.told other;
-  }
-
-  pub operator_on : (w : W) (event : Event) (events : List Event) (items later : List ItemAt) (unused : List (List AgentEntry))
-      → FitsOperator w event items later → Of w (event ∷ events) items unused → Of (next w event) events later unused
-  operator_on w event events items later unused fits is = record {
-    sense_is = is.sense_is.1;
-    served = cons_cancel (serves w event) _ later (is.served ∙ fits.served);
-    told = λ other. ap (λ xs. xs ++ told other (next w event) events) (sym (if_none other (agent_of event) (puts w event) fits.of)) ∙ is.told other;
-  }
 
   -- ---- what refutes
 

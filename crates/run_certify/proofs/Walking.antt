@@ -1,9 +1,8 @@
 -- One step of the walk after another.
-use Rattle.run_certify.proofs.Vocabulary.{◌≡◌, ◌⊎◌, ℕ, ◌<◌, true, false, List, [], ◌∷◌, ◌++◌, length, slice_set, subst, refl, ap, ◌∙◌, sym, arith, append_assoc, append-nil, Option, Some, None, cons_option, same_Some, IsAccepted, Fixed}
-use Rattle.run_certify.proofs.Vocabulary.{fixed_of, Job, EndedJob, Event, Begin, Step, Crash, Return, Forget, Lack, Decided, decided, has_sense, World, step, Item, AgentEntry, Asked, Ended, AreCounted, HasPlace, IsCounted, IsPlayed}
-use Rattle.run_certify.proofs.Vocabulary.{counts_after, jobs_after, ItemAt, agent_of, asker, entries_by, served_as, event_of, operated, transcript_of, AreAllPlayed, IsLeast, IsTaken, at_server, IsTurn, is_asked, Fails, Goes, IsLeft}
-use Rattle.run_certify.proofs.Vocabulary.{IsOfRun, IsSound, IsUse, Walked}
-use Rattle.run_certify.proofs.Bridge.{decided_same, decides, from_run, next, puts, sense, serves, to_run}
+use Rattle.run_certify.proofs.Vocabulary.{◌≡◌, ◌⊎◌, ℕ, ◌<◌, true, false, List, [], ◌∷◌, ◌++◌, length, slice_set, subst, refl, ap, ◌∙◌, sym, arith, append_assoc, append-nil, Option, Some, None, cons_option, same_Some, IsAccepted, Fixed, fixed_of, Job}
+use Rattle.run_certify.proofs.Vocabulary.{EndedJob, Event, Begin, Step, Crash, Return, Forget, Lack, Decided, decided, has_sense, World, step, Item, AgentEntry, Asked, Ended, AreCounted, HasPlace, IsCounted, counts_after, jobs_after, ItemAt}
+use Rattle.run_certify.proofs.Vocabulary.{agent_of, asker, entries_by, served_as, event_of, operated, transcript_of, AreAllPlayed, IsLeast, IsTaken, at_server, IsTurn, is_asked, Fails, Goes, IsLeft, IsOfRun, IsSound, IsUse, Walked}
+use Rattle.run_certify.proofs.Bridge.{decides, next, puts, sense, serves}
 use Rattle.run_certify.proofs.Counted.{count_on}
 use Rattle.run_certify.proofs.Deciding.{goes_on}
 use Rattle.run_certify.proofs.Facts.{asks_as, no_end, operator_serves}
@@ -17,20 +16,10 @@ module _ (fixed : Fixed) where
   Left = moves.IsLeft (next fixed) (sense fixed) (serves fixed) (puts fixed) (decides fixed)
 
   pub to_left : (w : World) (taken : List ItemAt) (histories : List (List Item)) (unused : List (List AgentEntry)) (ds : List Decided) → Left w taken histories unused ds → IsLeft fixed w taken histories unused ds
-  to_left w taken histories unused ds left = record {
-    items = left.items;
-    merge = left.merge;
-    run = to_run fixed w _ (taken ++ left.items) unused left.run;
-    is = left.is ∙ decided_same fixed w _;
-  }
+  to_left w taken histories unused ds left = search arith
 
   pub from_left : (w : World) (taken : List ItemAt) (histories : List (List Item)) (unused : List (List AgentEntry)) (ds : List Decided) → IsLeft fixed w taken histories unused ds → Left w taken histories unused ds
-  from_left w taken histories unused ds left = record {
-    items = left.items;
-    merge = left.merge;
-    run = from_run fixed w _ (taken ++ left.items) unused left.run;
-    is = left.is ∙ sym (decided_same fixed w _);
-  }
+  from_left w taken histories unused ds left = search arith
 
 -- ---- one step after the other
 
@@ -38,11 +27,7 @@ pub goes_nowhere : (was : Walked) (taken : List ItemAt) → Goes was taken was t
 goes_nowhere was taken = record { sound = λ s. s; on = λ s total run. run; back = λ s total run. run }
 
 pub goes_further : (a b c : Walked) (x y z : List ItemAt) → Goes a x b y → Goes b y c z → Goes a x c z
-goes_further a b c x y z one two = record {
-  sound = λ s. two.sound (one.sound s);
-  on = λ s total run. two.on (one.sound s) total (one.on s total run);
-  back = λ s total run. one.back s total (two.back (one.sound s) total run);
-}
+goes_further a b c x y z one two = search arith
 
 pub fails_further : (a b : Walked) (x y : List ItemAt) → Goes a x b y → Fails b y → Fails a x
 fails_further a b x y one fails = λ s total run. fails (one.sound s) total (one.on s total run)
@@ -81,29 +66,17 @@ counted_of counts seats (Forget agent site) long seat = tt
 counted_of counts seats (Lack agent why) long seat = tt
 
 jobs_long : (jobs : List (Option Job)) (event : Event) → length (jobs_after jobs event) ≡ length jobs
-jobs_long jobs (Begin agent job) = long_set jobs agent (Some job)
-jobs_long jobs (Step agent) = refl
-jobs_long jobs (Crash server) = refl
-jobs_long jobs (Return server) = refl
-jobs_long jobs (Forget agent site) = refl
-jobs_long jobs (Lack agent why) = refl
+jobs_long jobs event = search (long_set, arith)
 
 counts_long : (counts : List ℕ) (event : Event) → length (counts_after counts event) ≡ length counts
-counts_long counts (Begin agent job) = long_set counts agent _
-counts_long counts (Step agent) = refl
-counts_long counts (Crash server) = refl
-counts_long counts (Return server) = refl
-counts_long counts (Forget agent site) = refl
-counts_long counts (Lack agent why) = refl
+counts_long counts event = search (long_set, arith)
 
 pub sound_after : (was now : Walked) (event : Event) (left : List (List AgentEntry)) (ds : List Decided) → IsAfter was event left ds now → length left ≡ length was.unused → HasSeat (length was.unused) event
     → has_sense (fixed_of was.given) was.world event ≡ true → IsSound was → IsSound now
 sound_after was now event left ds after long seat has sound = record {
   accepted = subst (λ g. IsAccepted g) (sym after.given) sound.accepted;
   same = after.settings ∙ sound.same ∙ sym after.given;
-  played = subst (λ g. IsPlayed g now.world now.begun.jobs) (sym after.given)
-      (subst (λ w. IsPlayed was.given w now.begun.jobs) (sym after.world) (subst (λ js. IsPlayed was.given (step (fixed_of was.given) was.world event).world js) (sym after.jobs)
-      (goes_on was.given sound.accepted was.world was.begun.jobs sound.played event has (place_of was.begun.jobs (length was.unused) event sound.jobs_there seat))));
+  played = search (goes_on, place_of, arith);
   counted = subst (λ w. AreCounted w now.begun.counts) (sym after.world) (subst (λ cs. AreCounted (step (fixed_of was.given) was.world event).world cs) (sym after.counts)
       (count_on (fixed_of was.given) was.world was.begun.counts sound.counted event has (counted_of was.begun.counts (length was.unused) event sound.counts_there seat)));
   jobs_there = ap (λ js. length js) after.jobs ∙ jobs_long was.begun.jobs event ∙ sound.jobs_there ∙ sym long ∙ sym (ap (λ us. length us) after.unused);
@@ -115,14 +88,10 @@ module _ (was now : Walked) (event : Event) (left : List (List AgentEntry)) (ds 
   world = (step (fixed_of was.given) was.world event).world
 
   there : (more : List Decided) → IsLeft (fixed_of was.given) world later was.histories left more → IsLeft (fixed_of now.given) now.world later now.histories now.unused more
-  there more is =
-      subst (λ g. IsLeft (fixed_of g) now.world later now.histories now.unused more) (sym after.given) (subst (λ w. IsLeft (fixed_of was.given) w later now.histories now.unused more) (sym after.world)
-      (subst (λ hs. IsLeft (fixed_of was.given) world later hs now.unused more) (sym after.histories) (subst (λ us. IsLeft (fixed_of was.given) world later was.histories us more) (sym after.unused) is)))
+  there more is = search arith
 
   here : (more : List Decided) → IsLeft (fixed_of now.given) now.world later now.histories now.unused more → IsLeft (fixed_of was.given) world later was.histories left more
-  here more is =
-      subst (λ us. IsLeft (fixed_of was.given) world later was.histories us more) after.unused (subst (λ hs. IsLeft (fixed_of was.given) world later hs now.unused more) after.histories
-      (subst (λ w. IsLeft (fixed_of was.given) w later now.histories now.unused more) after.world (subst (λ g. IsLeft (fixed_of g) now.world later now.histories now.unused more) after.given is)))
+  here more is = search arith
 
   pub after_on : ((all : List Decided) → IsLeft (fixed_of was.given) was.world taken was.histories was.unused all → (more : List Decided) × (all ≡ ds ++ more) × IsLeft (fixed_of was.given) world later was.histories left more)
       → (total : List Decided) → IsOfRun was taken total → IsOfRun now later total
@@ -136,11 +105,7 @@ module _ (was now : Walked) (event : Event) (left : List (List AgentEntry)) (ds 
 
   pub after_back : ((more : List Decided) → IsLeft (fixed_of was.given) world later was.histories left more → IsLeft (fixed_of was.given) was.world taken was.histories was.unused (ds ++ more))
       → (total : List Decided) → IsOfRun now later total → IsOfRun was taken total
-  after_back goes total run = record {
-    later = ds ++ run.later;
-    parts = run.parts ∙ ap (λ xs. xs ++ run.later) after.made ∙ append_assoc was.made ds run.later;
-    left = goes run.later (here run.later run.left);
-  }
+  after_back goes total run = search (append_assoc, here, arith)
 
 none_some : (agent : ℕ) → ◌≡◌ {A = Option ℕ} None (Some agent) → ⊥
 none_some agent e = cc
@@ -228,21 +193,8 @@ taken_goes was now server item taken is =
     let hs : List (List Item) = slice_set was.histories server taken.later in
     let now_is : now ≡ record was { histories = hs } = is ∙ ap (λ h. record was { histories = h }) taken.set in
     subst (λ n. Goes was [] n (at_server server item ∷ [])) (sym now_is) (record {
-      sound = λ sound. record {
-        accepted = sound.accepted;
-        same = sound.same;
-        played = sound.played;
-        counted = sound.counted;
-        jobs_there = sound.jobs_there;
-        counts_there = sound.counts_there;
-      };
-      on = λ sound total run. record {
-        later = run.later;
-        parts = run.parts;
-        left = to_left fixed was.world (at_server server item ∷ []) hs was.unused run.later
-            (moves.taken_on (next fixed) (sense fixed) (serves fixed) (puts fixed) (decides fixed) was.world was.histories was.unused server item taken.later run.later taken.is.there taken.is.first taken.before
-            (from_left fixed was.world [] was.histories was.unused run.later run.left));
-      };
+      sound = search arith;
+      on = search (to_left, moves.taken_on, next, sense, serves, puts, decides, from_left, arith);
       back = λ sound total run. record {
         later = run.later;
         parts = run.parts;
@@ -277,11 +229,7 @@ operated_goes was now one event of spells none has served silent after =
 
 pub operated_fails : (was : Walked) (one : ItemAt) (event : Event) → one.item.agent ≡ None → operated one.server one.item.request.value ≡ event ∷ []
     → (IsSound was → has_sense (fixed_of was.given) was.world event ≡ true → ((what : ItemAt) → served_as (asker event) (step (fixed_of was.given) was.world event).done.served ≡ Some what → one ≡ what) → ⊥) → Fails was (one ∷ [])
-operated_fails was one event of spells none = λ sound total run.
-    let fixed : Fixed = fixed_of was.given in
-    let h = moves.operated_so (next fixed) (sense fixed) (serves fixed) (puts fixed) (decides fixed) was.world one event was.histories was.unused run.later of spells
-    (from_left fixed was.world (one ∷ []) was.histories was.unused run.later run.left) in
-    none sound h.0 h.1
+operated_fails was one event of spells none = search arith
 
 -- an item of the operator's is that a server crashed or restarted
 abbrev IsOperated : ItemAt → Type 0

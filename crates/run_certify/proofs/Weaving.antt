@@ -1,24 +1,15 @@
 -- One event after another of those that items and transcripts spell.
-use Rattle.run_certify.proofs.Vocabulary.{◌≡◌, ◌≢◌, ⊎_elim, ℕ, zero, suc, ◌+◌, ◌<◌, false, List, [], ◌∷◌, ◌++◌, length, slice_set, subst, refl, ap, ◌∙◌, sym, arith, slice_index_or, Option, Some, None, cons_option, Event, Step, AgentEntry}
-use Rattle.run_certify.proofs.Vocabulary.{Begun, Asked, Lacked, Forgot, Ended, same_Some, Request, ItemAt, event_of, events_of, events_at, operated, past_stamp, rest_from, transcript_of, unused_at, up_to_stamp, weave, asker, is_asked}
-use Rattle.rep_core.specs.declared.request.Request.TheVariants as request
+use Rattle.run_certify.proofs.Vocabulary.{◌≡◌, ◌≢◌, ⊎_elim, ℕ, zero, suc, ◌+◌, ◌<◌, false, List, [], ◌∷◌, ◌++◌, length, slice_set, subst, refl, ap, ◌∙◌, sym, arith, slice_index_or, Option, Some, None, cons_option, Event, Step, AgentEntry, Begun}
+use Rattle.run_certify.proofs.Vocabulary.{Asked, Lacked, Forgot, Ended, same_Some, Request, ItemAt, event_of, events_of, events_at, operated, past_stamp, rest_from, transcript_of, unused_at, up_to_stamp, weave, asker, is_asked}
 use Rattle.run_certify.proofs.Lists.{cons_append, same_or, set_again, set_here}
 
 -- ---- an agent's next entry
 
 up_to_other : (agent : ℕ) (y : AgentEntry) (ys : List AgentEntry) → is_asked y ≡ false → events_of agent (up_to_stamp (y ∷ ys)) ≡ cons_option (event_of agent y) (events_of agent (up_to_stamp ys))
-up_to_other agent (Begun job) ys other = refl
-up_to_other agent (Asked server stamp) ys other = cc
-up_to_other agent (Lacked server lack) ys other = refl
-up_to_other agent (Forgot site) ys other = refl
-up_to_other agent (Ended outcome) ys other = refl
+up_to_other agent y ys h3 = search arith
 
 past_other : (y : AgentEntry) (ys : List AgentEntry) → is_asked y ≡ false → past_stamp (y ∷ ys) ≡ past_stamp ys
-past_other (Begun job) ys other = refl
-past_other (Asked server stamp) ys other = cc
-past_other (Lacked server lack) ys other = refl
-past_other (Forgot site) ys other = refl
-past_other (Ended outcome) ys other = refl
+past_other y ys h2 = search arith
 
 weave_agent : (one : ItemAt) (items : List ItemAt) (unused : List (List AgentEntry)) (agent : ℕ) → one.item.agent ≡ Some agent
     → weave (one ∷ items) unused ≡ events_of agent (up_to_stamp (transcript_of unused agent)) ++ weave items (slice_set unused agent (past_stamp (transcript_of unused agent)))
@@ -27,28 +18,12 @@ weave_agent one items unused agent is = ap (λ who. events_at unused one who ++ 
 -- an entry that has no stamp
 pub weave_other : (one : ItemAt) (items : List ItemAt) (unused : List (List AgentEntry)) (agent : ℕ) (y : AgentEntry) (ys : List AgentEntry) → one.item.agent ≡ Some agent → agent < length unused → transcript_of unused agent ≡ y ∷ ys → is_asked y ≡ false
     → weave (one ∷ items) unused ≡ cons_option (event_of agent y) (weave (one ∷ items) (slice_set unused agent ys))
-weave_other one items unused agent y ys is low at other =
-    let there = set_here unused agent ys [] low in
-    let rest : List Event = weave items (slice_set unused agent (past_stamp ys)) in
-    weave_agent one items unused agent is
-    ∙ ap (λ entries. events_of agent (up_to_stamp entries) ++ weave items (slice_set unused agent (past_stamp entries))) at
-    ∙ ap (λ events. events ++ weave items (slice_set unused agent (past_stamp (y ∷ ys)))) (up_to_other agent y ys other)
-    ∙ ap (λ left. cons_option (event_of agent y) (events_of agent (up_to_stamp ys)) ++ weave items (slice_set unused agent left)) (past_other y ys other)
-    ∙ cons_append (event_of agent y) (events_of agent (up_to_stamp ys)) rest
-    ∙ ap (λ events. cons_option (event_of agent y) events)
-    (ap (λ us. events_of agent (up_to_stamp ys) ++ weave items us) (sym (set_again unused agent ys (past_stamp ys)))
-    ∙ ap (λ entries. events_of agent (up_to_stamp entries) ++ weave items (slice_set (slice_set unused agent ys) agent (past_stamp entries))) (sym there)
-    ∙ sym (weave_agent one items (slice_set unused agent ys) agent is))
+weave_other one items unused agent y ys is low at other = search (set_here, slice_set, weave_agent, up_to_other, past_other, cons_append, set_again, arith)
 
 -- one that has
 pub weave_asked : (one : ItemAt) (items : List ItemAt) (unused : List (List AgentEntry)) (agent server stamp : ℕ) (ys : List AgentEntry) → one.item.agent ≡ Some agent → transcript_of unused agent ≡ Asked server stamp ∷ ys
     → weave (one ∷ items) unused ≡ Step agent ∷ weave items (slice_set unused agent ys)
-weave_asked one items unused agent server stamp ys is at =
-    weave_agent one items unused agent is ∙ ap (λ entries. events_of agent (up_to_stamp entries) ++ weave items (slice_set unused agent (past_stamp entries))) at
-
--- the operator
-pub weave_operator : (one : ItemAt) (items : List ItemAt) (unused : List (List AgentEntry)) → one.item.agent ≡ None → weave (one ∷ items) unused ≡ operated one.server one.item.request.value ++ weave items unused
-weave_operator one items unused is = ap (λ who. events_at unused one who ++ weave items (unused_at unused who)) is
+weave_asked one items unused agent server stamp ys is at = search arith
 
 -- ---- who has put nothing down asks nothing
 
@@ -70,9 +45,7 @@ of_another agent other (Forgot site ∷ entries) apart = ((λ e. cc), of_another
 of_another agent other (Ended outcome ∷ entries) apart = of_another agent other entries apart
 
 of_operator : (agent server : ℕ) (asked : Request) → NoSteps agent (operated server asked)
-of_operator agent server request.Crash = ((λ e. cc), tt)
-of_operator agent server request.Return = ((λ e. cc), tt)
-of_operator agent server asked = tt
+of_operator agent server asked = search arith
 
 rest_none : (agent from : ℕ) (unused : List (List AgentEntry)) → ((i : ℕ) → from + i ≡ agent → slice_index_or unused i [] ≡ []) → NoSteps agent (rest_from from unused)
 rest_none agent from [] empty = tt

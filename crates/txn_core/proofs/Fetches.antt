@@ -4,7 +4,7 @@ use Rattle.txn_core.proofs.Vocabulary.{Content, Answer, Identity, Op, LockMode, 
 use Rattle.txn_core.proofs.Vocabulary.{Cause, Ending, Undecided, Transaction, Fixed, Task, Proposal, Phase, Gathering, Fetching, Widening, TransactionRun, Doing, Running, RunningSweep, After, GoesOn, Ends, Stage, Executes, Widens, Asks, Prepares}
 use Rattle.txn_core.proofs.Vocabulary.{PreparesAt, GivesUp, Tells, TellsAt, Point, point, EndsIn, Move, opens, gathers, lacks_lock, refuses, grants, passes, widens, widens_by, lacks_wide, prepares, MovesTo, Collects, gathering, widening, Hears}
 use Rattle.txn_core.proofs.Vocabulary.{asks_on, settles, gets, Step, Gathered, tell_end, give_up, prepare, locked_at, heard_on, raised_or_new, execute, after_response, asked_for, fetched_for, request_in, Agent, Event, Take, Forget, next_in, next_of}
-use Rattle.txn_core.proofs.Vocabulary.{take_in, take, begin, started, forget, is_idle, has_sense, max_jobs, Exchange, exchange_of, exchanges, of_job, count_of, Outcome as Executed, fetches as fetches'}
+use Rattle.txn_core.proofs.Vocabulary.{take_in, take, begin, started, forget, is_idle, has_sense, max_jobs, Exchange, exchange_of, exchanges, of_job, count_of, fetches as fetches'}
 use Rattle.file_ops.specs.declared.refusal.Refusal.{Refusal}
 use Rattle.file_exec.specs.declared.need.Need.{Need}
 use Rattle.file_exec.proofs.Unmet.{needs_what_is_unmet}
@@ -84,12 +84,7 @@ l_prepare before task cache suites outcome servers h6 = search arith
 more_content : (suite : GatheredSuite) (content : Content) → content_in (Some suite) ≤ content_in (Some (record suite { content = Some content }))
 more_content suite content = one_most (Some suite)
 
--- what the executor needs is not there
-pub need_in : Executed → Option Need
-need_in h0 = grind arith
-
 pub needed_first : (known' : Known) (heard : Heard (List Answer) Refusal) (need : Need) → answered known' heard ≡ exec.Need need → heard ≡ Needs need
-unfolding need_in
 needed_first known' heard need h3 = search arith
 
 away : (fixed : Fixed) (task : Task) (suites : Suites) (number : ℕ) → heard_on fixed task suites ≡ exec.Need (Know number) → IsAway suites number
