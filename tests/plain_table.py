@@ -169,15 +169,16 @@ class Table:
             self.nodes[number] = node._replace(lists=lists)
             return "set"
         if verb != "getacl" or caller.uid != node.owner:
-            self.permit(node, caller, WRITE if verb == "write" else READ)
+            self.permit(node, caller, WRITE if verb in ("write", "append") else READ)
         if verb == "getacl":
             return f"acl {text_of(node.lists)}"
         if verb == "list":
             return f"list {','.join(sorted(self.names(node))) or '-'}"
         if not isinstance(node.holds, str):
             raise Refused("F6")
-        if verb == "write":
-            self.nodes[number] = node._replace(holds=more[0].strip("-"))
+        if verb in ("write", "append"):
+            before = node.holds if verb == "append" else ""
+            self.nodes[number] = node._replace(holds=before + more[0].strip("-"))
             return "wrote"
         return f"read {node.holds or '-'}"
 

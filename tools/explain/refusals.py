@@ -4,6 +4,7 @@ import typing
 
 FOLDER, FILE = "folder", "file"
 MAKES = {"file": FILE, "folder": FOLDER}
+SIZED = {*MAKES, "write", "append"}
 MOST_NAMES, MOST_BYTES = 8, 64
 NAME = re.compile(r"[A-Za-z0-9._-]+")
 
@@ -13,15 +14,23 @@ class Tree:
 
     def __init__(self) -> None:
         self.kinds = {"/": FOLDER}
+        self.sizes = dict[str, int]()
 
     def play(self, operations: typing.Iterable[str]) -> None:
         """Operations that were answered."""
         for operation in operations:
-            verb, path = operation.split()[:2]
+            verb, path, *more = operation.split()
+            if verb in SIZED:
+                self.sizes[path] = self.size_after(verb, path, more)
             if verb in MAKES:
                 self.kinds[path] = MAKES[verb]
             elif verb == "drop":
                 self.kinds.pop(path, None)
+
+    def size_after(self, verb: str, path: str, more: list[str]) -> int:
+        """How many bytes a file has after an operation."""
+        before = self.sizes.get(path, 0) if verb == "append" else 0
+        return before if verb in MAKES else before + len(more[0].strip("-")) // 2
 
     def names(self, folder: str) -> list[str]:
         """The names in a folder, as paths."""
@@ -84,7 +93,7 @@ def why(code: str, place: int, operations: list[str], before: typing.Iterable[li
         "F5": f"The folder {folder} has the name {name} already, of a {kind}",
         "F6": f"{path} is a folder",
         "F7": f"The folder {path} has names: {names}",
-        "F8": f"It would have {len(words[2]) // 2 if len(words) > 2 else 0:,} bytes, and a file has at most 65,536",
+        "F8": f"It would have {tree.size_after(verb, path, words[2:]) if verb in SIZED else 0:,} bytes, and a file has at most 65,536",
         "F9": f"The folder {folder} has 1,024 names, the most that there are in one",
         "F11": f"The votes {words[-1]} list a server that is not there",
         "F12": f"The list has entries of a default list (d:), and {path} is a file",

@@ -37,7 +37,7 @@ const Saying = (() => {
       if (makes && above === path) return "wx";
       if (!makes && target === path) {
         if (["read", "list", "getacl", "getvotes"].includes(verb)) return "r";
-        return verb === "write" ? "w" : null;
+        return ["write", "append"].includes(verb) ? "w" : null;
       }
       if (target && target !== path && target.startsWith(path === "/" ? "/" : `${path}/`)) return "x";
     }

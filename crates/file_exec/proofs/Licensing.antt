@@ -99,6 +99,10 @@ module _ (known : Known) (rows : ℕ → Option Row) where
     bytes_at : (edits : Edits) (suite : ℕ) → Found suite → Does L Any edits (asked.bytes_at suite)
     bytes_at edits suite found = record { goes = (found, λ _. (gives {L = L} {Q = Any} {edits = edits} (bytes_in (content_read rows edits suite)) (λ _ _. tt)).goes) }
 
+    bytes_at_shown : (edits : Edits) (place : Object) → IsPlace edits place → Does L (λ later _. IsShown rows later place) edits (asked.bytes_at place.suite)
+    bytes_at_shown edits place at =
+        record { goes = (at.1, λ _. (gives {L = L} {Q = λ later _. IsShown rows later place} {edits = edits} (bytes_in (content_read rows edits place.suite)) (λ _ _. at.0)).goes) }
+
     step : (edits : Edits) (suite : ℕ) (name : List ℕ) → Does L Any edits (asked.step caller suite name)
     step edits suite name =
         in_turn {P = λ _ _. Found suite} _ (held (λ _ _. Found suite) edits suite Shared (λ found _ _. found)) (λ now folder found.
@@ -172,6 +176,13 @@ module _ (known : Known) (rows : ℕ → Option Row) where
       in_turn {P = IsPlace L caller} _ (reach L caller edits names Exclusive) (λ now place is.
       ruled (permit caller place to_write) _ (λ _ may. ruled (bytes_in place.row.content) _ (λ before was.
       record { goes = (writes_bytes is.0 may was (within (length bytes) max_content (not_refused (nat_lt max_content (length bytes)) why.TooLong x fits)), tt) }))))
+  act edits service t at caller names (action.Append bytes) =
+      let L = Licensed service known rows caller (action.Append bytes) (made_number t at) in
+      in_turn {P = IsPlace L caller} _ (reach L caller edits names Exclusive) (λ now place is.
+      ruled (permit caller place to_write) _ (λ _ may. ruled (bytes_in place.row.content) _ (λ before was.
+      in_turn {P = λ later _. IsShown rows later place} _ (bytes_at_shown L caller now place is) (λ later kept shown.
+      ruled (refuse_if (nat_lt max_content (length (kept ++ bytes))) why.TooLong) _ (λ x fits.
+      record { goes = (writes_bytes shown may was (within (length (kept ++ bytes)) max_content (not_refused (nat_lt max_content (length (kept ++ bytes))) why.TooLong x fits)), tt) })))))
   act edits service t at caller names (action.SetAcl acl) =
       let L = Licensed service known rows caller (action.SetAcl acl) (made_number t at) in
       in_turn {P = IsOwned L caller} _ (owned L caller edits names) (λ now place is.

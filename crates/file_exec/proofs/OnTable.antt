@@ -1,6 +1,6 @@
 -- On a table a course is the operation that it stands for.
 use Rattle.file_exec.proofs.Vocabulary.{◌≡◌, ℕ, true, false, cond, List, [], ◌∷◌, ◌++◌, Option, Some, None, Result, Ok, Err, refl, sym, ap, subst, ◌∙◌, ◌+◌, nat_le, length, is_some, Identity, Content, Bytes, Names, LockMode, Shared}
-use Rattle.file_exec.proofs.Vocabulary.{Exclusive, Why, Row, Rows, row_of, with_row, new_row, made_number, root, found_or, ok_map, names_of, Op, Action, Refusal, max_names, on_table, IsTheTransaction, known_votes, votes_of_new, Service}
+use Rattle.file_exec.proofs.Vocabulary.{Exclusive, Why, Row, Rows, row_of, with_row, new_row, made_number, root, found_or, ok_map, names_of, Op, Action, Refusal, max_names, max_content, nat_lt, on_table, IsTheTransaction, known_votes, votes_of_new, Service}
 use Rattle.file_exec.proofs.Vocabulary.{Init, Configuration, Lists, Kind, gives_default, is_misplaced, lists_of, Answer, Edit, SetAcl, SetVotes, SetContent, Make, Course, Give, Refuse, Look, Read, Set, ◌>>=◌, ◌>>◌, rule, look, set}
 use Rattle.file_exec.proofs.Vocabulary.{at_place, Edits, changed, head, content_in, looked, content_read, Ended, ending, put, with_edits}
 use Rattle.suite_content.specs.Folders as folders
@@ -150,6 +150,25 @@ module _ (rows : Rows) (caller : Identity) (names : List (List ℕ)) where
       at_file rows Does does_err place.row _ _ (λ before is.
       on_set place.suite place.row (SetContent (Bytes bytes)) answer.Wrote there))))
 
+  on_bytes_appended : (bytes : List ℕ) → Does (On rows (asked.bytes_appended caller names bytes)) (plain_ops.bytes_appended rows caller names bytes)
+  on_bytes_appended bytes =
+      at_reach Exclusive _ _ (λ place there.
+      ruled_out rows Does does_err _ _ _ (
+      at_file rows Does does_err place.row _ _ (λ before is.
+      subst (λ ended. Does ended (later place before))
+      (sym (on_bytes rows place.suite place.row before (next place) there is))
+      (ruled_out rows Does does_err (fits before) _ _ (
+      on_set place.suite place.row (SetContent (Bytes (before ++ bytes))) answer.Wrote there)))))
+    where
+      fits : List ℕ → Result (Unit {0}) Why
+      fits before = plain_ops.refuse_if (nat_lt max_content (length (before ++ bytes))) why.TooLong
+
+      next : plain.Object → List ℕ → Course Answer Why
+      next place before = ◌>>◌ (rule (fits before)) (◌>>◌ (set place.suite (SetContent (Bytes (before ++ bytes)))) (Give answer.Wrote))
+
+      later : plain.Object → List ℕ → Result plain_ops.Performed Why
+      later place before = steps.◌>>◌ (fits before) (Ok (record { answer = answer.Wrote; rows = put place.suite (changed (SetContent (Bytes (before ++ bytes))) (Some place.row)) rows }))
+
   on_list_set : (acl : Lists) → Does (On rows (asked.list_set caller names acl)) (plain_ops.list_set rows caller names acl)
   on_list_set acl =
       at_owned _ _ (λ place there.
@@ -250,6 +269,7 @@ module _ (rows : Rows) (caller : Identity) where
   on_act : (service : Service) (t at : ℕ) (names : List (List ℕ)) (action : Action) → Does rows caller names (On rows (asked.act service t at caller names action)) (plain_ops.act service rows t at caller names action)
   on_act service t at names action.Read = on_bytes_read rows caller names
   on_act service t at names (action.Write bytes) = on_bytes_written rows caller names bytes
+  on_act service t at names (action.Append bytes) = on_bytes_appended rows caller names bytes
   on_act service t at names action.List = on_names_listed rows caller names
   on_act service t at names (action.Make kind init votes) = on_made service (made_number t at) names kind init votes
   on_act service t at names action.Drop = on_dropped names

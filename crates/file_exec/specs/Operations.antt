@@ -125,6 +125,17 @@ bytes_written caller names bytes = do
   set place.suite (SetContent (Bytes bytes))
   Give answer.Wrote
 
+-- those before are read, and kept in front
+abbrev pub bytes_appended : Identity → List (List ℕ) → List ℕ → Course Answer Why
+bytes_appended caller names bytes = do
+  place ← reach caller names Exclusive
+  rule (permit caller place to_write)
+  rule (bytes_in place.row.content)
+  before ← bytes_at place.suite
+  rule (refuse_if (nat_lt max_content (length (before ++ bytes))) why.TooLong)
+  set place.suite (SetContent (Bytes (before ++ bytes)))
+  Give answer.Wrote
+
 -- other lists; the kind, which decides whether a default list may come to it, is known from the look
 abbrev pub list_set : Identity → List (List ℕ) → Lists → Course Answer Why
 list_set caller names acl = do
@@ -189,6 +200,7 @@ dropped caller names = do
 abbrev pub act : Service → ℕ → ℕ → Identity → List (List ℕ) → Action → Course Answer Why
 act service t at caller names action.Read = bytes_read caller names
 act service t at caller names (action.Write bytes) = bytes_written caller names bytes
+act service t at caller names (action.Append bytes) = bytes_appended caller names bytes
 act service t at caller names action.List = names_listed caller names
 act service t at caller names (action.Make kind init votes) = made service (made_number t at) caller names kind init votes
 act service t at caller names action.Drop = dropped caller names

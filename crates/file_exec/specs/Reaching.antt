@@ -46,6 +46,7 @@ along (action.Make kind init votes) names = folders_in (last_name names)
 along action.Drop names = folders_in (last_name names)
 along action.Read names = names
 along (action.Write bytes) names = names
+along (action.Append bytes) names = names
 along action.List names = names
 along action.GetAcl names = names
 along (action.SetAcl acl) names = names

@@ -9,7 +9,7 @@ ghost use Rattle.file_ops.specs.Steps.{found_or};
 ghost use Rattle.suite_prefix.specs.declared.lock_mode.LockMode.TheVariants.{Exclusive};
 ghost use Rattle.file_exec.specs.Courses.{set};
 ghost use Rattle.file_exec.specs.Known.{is_held, known_of};
-ghost use Rattle.file_exec.specs.Operations.{bytes_read, names_listed, list_shown, votes_shown, bytes_written, list_set, dropped};
+ghost use Rattle.file_exec.specs.Operations.{bytes_read, names_listed, list_shown, votes_shown, bytes_written, bytes_appended, list_set, dropped};
 ghost use Rattle.file_exec.specs.code.Steps.{Answers, Runs, Sees, set_both, unused};
 ghost use Rattle.file_exec.specs.code.Acting.{Acts, LeadsFor, operation_at, votes_set_for, made_for, name_edit, row_edit, row_for};
 ghost use Rattle.file_exec.specs.code.Ways.{LeadsTo, only_reads};
@@ -24,7 +24,10 @@ use crate::seen::Seen;
 use crate::stop::Stop;
 use crate::view::{Parent, View};
 use acl_core::{Acl, Caller, Lists, Perms};
-use file_ops::{Action, Answer, Init, Op, Why, last_name, made_number, require_placed};
+use file_ops::{
+    Action, Answer, Init, Op, Why, appended, last_name, made_number, require_appendable,
+    require_placed,
+};
 use std::alloc::{AllocError, Global};
 use suite_content::{Content, FileBytes, FolderNames, Kind, Name};
 use suite_prefix::LockMode;
@@ -220,6 +223,37 @@ fn write(
     place.require_file()?;
     let suite = place.suite;
     let bytes = bytes.clone()?;
+    set(known, log, suite, Edit::SetContent(Content::Bytes(bytes)))?;
+    Ok(Answer::Wrote)
+}
+
+/// Puts bytes behind those of a file, which are to be known.
+fn append(
+    transaction: Transaction<'_, '_>,
+    log: &mut EditLog,
+    names: &[Name],
+    bytes: &FileBytes,
+    point: &mut WalkPoint,
+) -> Result<Answer, Stop>
+    requires { LeadsFor transaction log.old names.now point.old }
+    ensures answer { Acts result transaction.entry log.old log.new (bytes_appended transaction.entry.caller.now names.now bytes.now) }
+    ensures kept { OnErr result (log.new ≡ log.old) }
+    ensures point { LeadsFor transaction.entry log.old names.now point.new }
+{
+    let Transaction {
+        alloc,
+        known,
+        caller,
+        ..
+    } = transaction;
+    let view = View { known, log };
+    let place = view.reach(caller, names, LockMode::Exclusive, point)?;
+    place.permit(caller, Perms::WRITE)?;
+    place.require_file()?;
+    let suite = place.suite;
+    let before = view.bytes_at(suite, place.row)?;
+    require_appendable(before, bytes)?;
+    let bytes = appended(alloc, before, bytes)?;
     set(known, log, suite, Edit::SetContent(Content::Bytes(bytes)))?;
     Ok(Answer::Wrote)
 }
@@ -422,6 +456,7 @@ pub(crate) fn operate(
         Action::GetAcl => get_acl(View { known, log }, caller, names, point),
         Action::GetVotes => get_votes(View { known, log }, caller, names, point),
         Action::Write(bytes) => write(transaction, log, names, bytes, point),
+        Action::Append(bytes) => append(transaction, log, names, bytes, point),
         Action::SetAcl(acl) => set_acl(transaction, log, names, acl, point),
         Action::SetVotes(votes) => set_votes(transaction, log, names, votes, point),
         Action::Drop => drop(transaction, log, names, point),

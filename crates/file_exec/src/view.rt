@@ -150,6 +150,18 @@ impl<'a, 'k> View<'a, 'k> {
         }
     }
 
+    /// The bytes of a file, where they are kept.
+    pub(crate) fn bytes_at(self, suite: u64, row: Seen<'a>) -> Result<&'a FileBytes, Stop>
+        requires { IsSeenAt self suite (Some row) }
+        ensures { Sees (λ bytes. bytes.now) result self.entry (bytes_at suite) }
+    {
+        let content = self.content_of(suite, row)?;
+        match content {
+            Content::Bytes(bytes) => Ok(bytes),
+            Content::Names(_) => Err(Stop::Refused(Why::IsFolder)),
+        }
+    }
+
     /// The bytes of a file, which shares them.
     pub(crate) fn bytes_of(self, suite: u64, row: Seen<'a>) -> Result<FileBytes, Stop>
         requires { IsSeenAt self suite (Some row) }

@@ -1,5 +1,5 @@
 -- One operation on the table: its reply and the rows after it, or why it is refused.
-use Rattle.std.specs.Prelude.{ℕ, ◌-◌, nat_lt, nat_le, Bool, true, false, List, length, take, is_some, slice_get, Option, Some, None, Result, Ok, Err}
+use Rattle.std.specs.Prelude.{ℕ, ◌-◌, nat_lt, nat_le, Bool, true, false, List, ◌++◌, length, take, is_some, slice_get, Option, Some, None, Result, Ok, Err}
 use Rattle.std.specs.Borrow.{Bor}
 use Rattle.acl_core.specs.Identity.{Identity}
 use Rattle.acl_core.specs.declared.lists.Lists.{Lists}
@@ -81,6 +81,15 @@ bytes_written rows caller names bytes = do
   before ← bytes_in place.row.content
   Ok (record { answer = answer.Wrote; rows = with_row rows place.suite (with_content place.row (Bytes bytes)) })
 
+-- bytes put behind those of a file
+abbrev pub bytes_appended : Rows → Identity → List (List ℕ) → List ℕ → Result Performed Why
+bytes_appended rows caller names bytes = do
+  place ← reach rows caller names
+  permit caller place to_write
+  before ← bytes_in place.row.content
+  refuse_if (nat_lt max_content (length (before ++ bytes))) why.TooLong
+  Ok (record { answer = answer.Wrote; rows = with_row rows place.suite (with_content place.row (Bytes (before ++ bytes))) })
+
 -- other lists set, of which a file has no default list; other votes set
 abbrev pub list_set : Rows → Identity → List (List ℕ) → Lists → Result Performed Why
 list_set rows caller names acl = do
@@ -155,6 +164,7 @@ dropped rows caller names = do
 abbrev pub act : Service → Rows → ℕ → ℕ → Identity → List (List ℕ) → Action → Result Performed Why
 act service rows t at caller names action.Read = bytes_read rows caller names
 act service rows t at caller names (action.Write bytes) = bytes_written rows caller names bytes
+act service rows t at caller names (action.Append bytes) = bytes_appended rows caller names bytes
 act service rows t at caller names action.List = names_listed rows caller names
 act service rows t at caller names (action.Make kind init votes) = made service rows (made_number t at) caller names kind init votes
 act service rows t at caller names action.Drop = dropped rows caller names

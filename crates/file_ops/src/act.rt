@@ -5,14 +5,16 @@ ghost use Rattle.acl_core.specs.declared.perms.Perms.{Perms};
 ghost use Rattle.file_ops.specs.declared.act.OpError.TheVariants as stopped;
 ghost use Rattle.file_ops.specs.Rows.{row_of, new_row};
 ghost use Rattle.file_ops.specs.code.Stored.{plain, plain_row};
-ghost use Rattle.file_ops.specs.Operations.{bytes_read, names_listed, list_shown, votes_shown, bytes_written, list_set, votes_set, dropped, has_names};
+ghost use Rattle.file_ops.specs.Operations.{bytes_read, names_listed, list_shown, votes_shown, bytes_written, bytes_appended, list_set, votes_set, dropped, has_names};
 ghost use Rattle.file_ops.specs.code.Restored.{Restores};
 ghost use Rattle.file_ops.specs.code.Performed.{Does, Acts};
 ghost use Rattle.file_ops.specs.code.Acting.{made_for, operation_at};
 
 use crate::answer::Answer;
 use crate::edit::list_names;
-use crate::operation::{Action, Init, Op, made_number, require_placed};
+use crate::operation::{
+    Action, Init, Op, appended, made_number, require_appendable, require_placed,
+};
 use crate::refusal::Why;
 use crate::service::Service;
 use crate::stored::{StoredContent, StoredRow, StoredRows};
@@ -128,6 +130,30 @@ fn write(
     place.row.content.bytes()?;
     let suite = place.suite;
     let bytes = bytes.clone()?;
+    let undo = replace_content(rows, suite, StoredContent::Bytes(bytes));
+    Ok(Performed {
+        answer: Answer::Wrote,
+        undo,
+    })
+}
+
+/// Puts bytes behind those of a file.
+fn append(
+    rows: &mut StoredRows,
+    alloc: Global,
+    caller: &Caller,
+    names: &[Name],
+    bytes: &FileBytes,
+) -> Result<Performed, OpError>
+    ensures acts { Acts result rows.old rows.new (bytes_appended (plain rows.old) caller.now names.now bytes.now) }
+    ensures err { OnErr result (Restores rows.old rows.new) }
+{
+    let place = reach(rows, caller, names)?;
+    permit(caller, place, Perms::WRITE)?;
+    let before = place.row.content.bytes()?;
+    require_appendable(before, bytes)?;
+    let suite = place.suite;
+    let bytes = appended(alloc, before, bytes)?;
     let undo = replace_content(rows, suite, StoredContent::Bytes(bytes));
     Ok(Performed {
         answer: Answer::Wrote,
@@ -293,6 +319,7 @@ pub(crate) fn operate(
         Action::GetVotes => get_votes(rows, caller, names)?,
         Action::List => return list(rows, alloc, caller, names),
         Action::Write(bytes) => return write(rows, caller, names, bytes),
+        Action::Append(bytes) => return append(rows, alloc, caller, names, bytes),
         Action::SetAcl(acl) => return set_acl(rows, caller, names, acl),
         Action::SetVotes(votes) => return set_votes(rows, service, caller, names, votes),
         Action::Drop => return drop(rows, caller, names),

@@ -13,7 +13,8 @@
 //!
 //! `specs/Operations.antt` reads like the rules. First the path (F1), the length written (F8), unknown servers in
 //! votes (F11), a default list for a file (F12). Then the walk from the root, at each folder its kind (F2), search
-//! (F3) and name (F4). Then at the target what is wanted (F3), its kind (F6, F2), and the rest. Who may do what,
+//! (F3) and name (F4). Then at the target what is wanted (F3), its kind (F6, F2), and the rest, as the length that an
+//! appending makes (F8). Who may do what,
 //! `Acl::check` says. Votes count for nothing here. What is made with a mode gets its lists from its folder
 //! (`lists_of`).
 //!
@@ -49,7 +50,9 @@ mod walk;
 pub use answer::{Answer, Answers};
 pub use audit::AuditItem;
 pub use guarded::{Guarded, to_change};
-pub use operation::{Action, Init, MAX_OPERATIONS, Op, made_number, require_placed};
+pub use operation::{
+    Action, Init, MAX_OPERATIONS, Op, appended, made_number, require_appendable, require_placed,
+};
 pub use path::PathText;
 pub use refusal::{ApplyError, Denial, Refusal, Why};
 pub use service::Service;

@@ -1,6 +1,7 @@
 //! What a transaction is made of.
 
-ghost use Rattle.std.specs.Prelude.{◌≡◌, ◌<◌, ◌^◌, IfOk};
+ghost use Rattle.std.specs.Prelude.{◌≡◌, ◌<◌, ◌^◌, ◌++◌, IfOk, length, nat_lt};
+ghost use Rattle.suite_content.specs.Limits.{max_content};
 ghost use Rattle.file_ops.specs.Lists.{gives_default, is_misplaced, kept_default, lists_of, mode_list};
 ghost use Rattle.file_ops.specs.Operations.{refuse_if};
 ghost use Rattle.file_ops.specs.declared.refusal.Why.TheVariants as why;
@@ -10,7 +11,7 @@ use crate::path::PathText;
 use crate::refusal::Why;
 use acl_core::{Acl, Lists, Mode};
 use std::alloc::{AllocError, Global};
-use suite_content::{FileBytes, Kind};
+use suite_content::{FileBytes, Kind, MAX_CONTENT};
 use vote_core::Votes;
 
 /// The most operations of a transaction.
@@ -84,6 +85,29 @@ pub fn require_placed(kind: Kind, given: bool) -> Result<(), Why>
     }
 }
 
+/// Refuses bytes that would make a file too long.
+pub fn require_appendable(before: &FileBytes, more: &FileBytes) -> Result<(), Why>
+    ensures { result ≡ refuse_if (nat_lt max_content (length (before.now ++ more.now))) why.TooLong }
+{
+    if more.is_too_long() || before.len() > MAX_CONTENT - more.len() {
+        return Err(Why::TooLong);
+    }
+    Ok(())
+}
+
+/// The bytes of a file, and more behind them.
+pub fn appended(
+    alloc: Global,
+    before: &FileBytes,
+    more: &FileBytes,
+) -> Result<FileBytes, AllocError>
+    ensures { IfOk result (λ bytes. bytes ≡ before.now ++ more.now) }
+{
+    let mut bytes = Vec::from_slice(alloc, before.as_slice())?;
+    bytes.extend_from_slice(more.as_slice())?;
+    FileBytes::from_vec(bytes)
+}
+
 /// What is done at the end of a path.
 #[derive(Debug, Drop)]
 pub enum Action {
@@ -91,6 +115,8 @@ pub enum Action {
     Read,
     /// A file gets these bytes in place of those before.
     Write(FileBytes),
+    /// A file gets these bytes behind those that it has.
+    Append(FileBytes),
     /// The names of a folder are answered.
     List,
     /// A name is put in a folder, for a new file or folder with this list and these votes; where none are

@@ -23,6 +23,7 @@ module _ (service : Service) (t t' : ℕ) (caller : Identity) where
   act_same : (rows : Rows) (at : ℕ) (names : List (List ℕ)) (one : Action) → IsNoMake one → act service rows t at caller names one ≡ act service rows t' at caller names one
   act_same rows at names action.Read is = refl
   act_same rows at names (action.Write bytes) is = refl
+  act_same rows at names (action.Append bytes) is = refl
   act_same rows at names action.List is = refl
   act_same rows at names (action.Make kind init votes) is = absurd is
   act_same rows at names action.Drop is = refl

@@ -59,6 +59,7 @@ fn same_action(own: &Action, theirs: &Action) -> bool
 {
     match (own, theirs) {
         (Action::Write(bytes), Action::Write(others)) => same_bytes(bytes, others),
+        (Action::Append(bytes), Action::Append(others)) => same_bytes(bytes, others),
         (Action::SetAcl(lists), Action::SetAcl(others)) => same_lists(lists, others),
         (Action::Drop, Action::Drop)
         | (Action::Read, Action::Read)

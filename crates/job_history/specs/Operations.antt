@@ -48,6 +48,7 @@ made_text init votes = codes " " ++ init_text init ++ codes " " ++ votes_text vo
 abbrev pub given_text : Configuration → Action → List ℕ
 given_text c0 action.Read = []
 given_text c0 (action.Write bytes) = codes " " ++ bytes_text bytes
+given_text c0 (action.Append bytes) = codes " " ++ bytes_text bytes
 given_text c0 action.List = []
 given_text c0 (action.Make kind init votes) = made_text init (votes_or c0 votes)
 given_text c0 action.Drop = []
@@ -66,6 +67,7 @@ kind_text Folder = codes "folder "
 abbrev pub action_text : Action → List ℕ
 action_text action.Read = codes "read "
 action_text (action.Write bytes) = codes "write "
+action_text (action.Append bytes) = codes "append "
 action_text action.List = codes "list "
 action_text (action.Make kind init votes) = kind_text kind
 action_text action.Drop = codes "drop "

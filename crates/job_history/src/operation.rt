@@ -55,6 +55,7 @@ fn push_action(text: &mut Vec<u8>, action: &Action) -> Result<(), AllocError>
     match action {
         Action::Read => text.extend_from_slice(b"read "),
         Action::Write(_) => text.extend_from_slice(b"write "),
+        Action::Append(_) => text.extend_from_slice(b"append "),
         Action::List => text.extend_from_slice(b"list "),
         Action::Make(kind, _, _) => push_kind(text, *kind),
         Action::Drop => text.extend_from_slice(b"drop "),
@@ -105,7 +106,7 @@ fn push_given(
     ensures { OnOk result (text.new.items ≡ text.old.items ++ given_text c0.now action.now) }
 {
     match action {
-        Action::Write(bytes) => {
+        Action::Write(bytes) | Action::Append(bytes) => {
             text.extend_from_slice(b" ")?;
             push_bytes(alloc, text, bytes)
         }

@@ -88,6 +88,8 @@ static LENGTHS: &str = "
 1000 1000 | file /a 600 | answered made 1
 1000 1000 | fill 65537 | refused F8 op 1
 1000 1000 | fill 65536 | answered wrote
+1000 1000 | append /a 00 | refused F8 op 1
+1000 1000 | append /a - | answered wrote
 1000 1000 | write /a - ; read /a | answered wrote; read -";
 
 /// 1,024 files that are made in the root folder, and one more.

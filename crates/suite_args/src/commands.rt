@@ -41,7 +41,7 @@ Operations, one to eight in a transaction:
 
   read PATH         file PATH INIT [VOTES]    getacl PATH       getvotes PATH
   write PATH HEX    folder PATH INIT [VOTES]  setacl PATH LIST  setvotes PATH VOTES
-  list PATH         drop PATH
+  list PATH         drop PATH                 append PATH HEX
 
   GIDS   the user's own group, and up to 32 others behind commas: 100,200
   INIT   three octal digits, or a LIST; where the folder around it has a default list, digits limit that

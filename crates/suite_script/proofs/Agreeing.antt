@@ -39,6 +39,13 @@ by_contents scope number path text words = elim (cases_option (bytes_in text)) [
   | inr some ↦ rw some.1 (ends _ _ words)
 ]
 
+by_appended : (scope : Scope) (number : ℕ) (path text : Word) (words : List Word) → judged_fault
+    (shaped scope (places_of verb.Append) (ending_of verb.Append) number (path ∷ text ∷ words)) ≡ fault_in (operation_by scope.names verb.Append (path ∷ text ∷ words))
+by_appended scope number path text words = elim (cases_option (bytes_in text)) [
+  | inl none ↦ rw none refl
+  | inr some ↦ rw some.1 (ends _ _ words)
+]
+
 by_lists : (scope : Scope) (number : ℕ) (path text : Word) (words : List Word) → judged_fault
     (shaped scope (places_of verb.SetAcl) (ending_of verb.SetAcl) number (path ∷ text ∷ words)) ≡ fault_in (operation_by scope.names verb.SetAcl (path ∷ text ∷ words))
 by_lists scope number path text words = elim (cases_result (lists_in scope.names text)) [
@@ -101,6 +108,9 @@ by_verb scope number verb.GetVotes (path ∷ word ∷ words) = refl
 by_verb scope number verb.Write [] = refl
 by_verb scope number verb.Write (path ∷ []) = refl
 by_verb scope number verb.Write (path ∷ text ∷ words) = by_contents scope number path text words
+by_verb scope number verb.Append [] = refl
+by_verb scope number verb.Append (path ∷ []) = refl
+by_verb scope number verb.Append (path ∷ text ∷ words) = by_appended scope number path text words
 by_verb scope number verb.SetAcl [] = refl
 by_verb scope number verb.SetAcl (path ∷ []) = refl
 by_verb scope number verb.SetAcl (path ∷ text ∷ words) = by_lists scope number path text words

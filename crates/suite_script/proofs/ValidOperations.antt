@@ -49,6 +49,7 @@ valid_make names kind words =
 valid_act : (names : Tables) (verb : Verb) (words : List Word) → IfOk (act names verb words) ActsValidly
 valid_act names verb.Read words = tt
 valid_act names verb.Write words = after_any _ (bytes words) _ (λ given. tt)
+valid_act names verb.Append words = after_any _ (bytes words) _ (λ given. tt)
 valid_act names verb.List words = tt
 valid_act names verb.File words = valid_make names File words
 valid_act names verb.Folder words = valid_make names Folder words

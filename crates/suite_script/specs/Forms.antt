@@ -31,6 +31,7 @@ use Rattle.suite_script.specs.Votes.{votes_in}
 abbrev pub places_of : Verb → List Place
 places_of verb.Read = place.Path ∷ []
 places_of verb.Write = place.Path ∷ place.Contents ∷ []
+places_of verb.Append = place.Path ∷ place.Contents ∷ []
 places_of verb.List = place.Path ∷ []
 places_of verb.File = place.Path ∷ place.Init ∷ []
 places_of verb.Folder = place.Path ∷ place.Init ∷ []

@@ -30,6 +30,7 @@ use Rattle.suite_script.specs.Votes.{votes_in}
 abbrev pub spelling : Verb → Word
 spelling verb.Read = codes "read"
 spelling verb.Write = codes "write"
+spelling verb.Append = codes "append"
 spelling verb.List = codes "list"
 spelling verb.File = codes "file"
 spelling verb.Folder = codes "folder"
@@ -40,7 +41,7 @@ spelling verb.GetVotes = codes "getvotes"
 spelling verb.SetVotes = codes "setvotes"
 
 abbrev pub verbs : List Verb
-verbs = verb.Read ∷ verb.Write ∷ verb.List ∷ verb.File ∷ verb.Folder ∷ verb.Drop ∷ verb.GetAcl ∷ verb.SetAcl ∷ verb.GetVotes ∷ verb.SetVotes ∷ []
+verbs = verb.Read ∷ verb.Write ∷ verb.Append ∷ verb.List ∷ verb.File ∷ verb.Folder ∷ verb.Drop ∷ verb.GetAcl ∷ verb.SetAcl ∷ verb.GetVotes ∷ verb.SetVotes ∷ []
 
 abbrev pub verb_in : Word → Option Verb
 verb_in text = find (λ verb. bytes_eq text (spelling verb)) verbs
@@ -82,6 +83,9 @@ act names verb.Read words = Ok (record { value = action.Read; rest = words })
 act names verb.Write words = do
   given ← bytes words
   Ok (record { value = action.Write given.value; rest = given.rest })
+act names verb.Append words = do
+  given ← bytes words
+  Ok (record { value = action.Append given.value; rest = given.rest })
 act names verb.List words = Ok (record { value = action.List; rest = words })
 act names verb.File words = make names File words
 act names verb.Folder words = make names Folder words

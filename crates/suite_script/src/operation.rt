@@ -81,6 +81,10 @@ fn read_action(
             let word = phrases.next_word().ok_or(LineFault::Form)?;
             Ok(Action::Write(read_bytes(alloc, word)?))
         }
+        Verb::Append => {
+            let word = phrases.next_word().ok_or(LineFault::Form)?;
+            Ok(Action::Append(read_bytes(alloc, word)?))
+        }
         Verb::List => Ok(Action::List),
         Verb::File => read_make(alloc, names, Kind::File, phrases),
         Verb::Folder => read_make(alloc, names, Kind::Folder, phrases),

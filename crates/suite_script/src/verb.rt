@@ -11,6 +11,7 @@ use crate::form::{FormEnding, LineForm, Place};
 pub enum Verb {
     Read,
     Write,
+    Append,
     List,
     File,
     Folder,
@@ -22,9 +23,10 @@ pub enum Verb {
 }
 
 /// All of them.
-pub const VERBS: [Verb; 10] = [
+pub const VERBS: [Verb; 11] = [
     Verb::Read,
     Verb::Write,
+    Verb::Append,
     Verb::List,
     Verb::File,
     Verb::Folder,
@@ -50,6 +52,7 @@ impl Verb {
         match self {
             Verb::Read => b"read",
             Verb::Write => b"write",
+            Verb::Append => b"append",
             Verb::List => b"list",
             Verb::File => b"file",
             Verb::Folder => b"folder",
@@ -66,7 +69,7 @@ impl Verb {
         ensures { result.now ≡ places_of self }
     {
         match self {
-            Verb::Write => &[Place::Path, Place::Contents],
+            Verb::Write | Verb::Append => &[Place::Path, Place::Contents],
             Verb::File | Verb::Folder => &[Place::Path, Place::Init],
             Verb::SetAcl => &[Place::Path, Place::Lists],
             Verb::SetVotes => &[Place::Path, Place::Votes],
@@ -88,6 +91,7 @@ impl Verb {
         match self {
             Verb::Read => b"reads a file's bytes, as hexadecimal digits",
             Verb::Write => b"writes a file's bytes, as hexadecimal digits",
+            Verb::Append => b"appends to a file's bytes, as hexadecimal digits",
             Verb::List => b"tells the names in a folder",
             Verb::File => b"makes a file, of the caller's user and first group",
             Verb::Folder => b"makes a folder, of the caller's user and first group",

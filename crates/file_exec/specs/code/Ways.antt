@@ -27,6 +27,7 @@ LeadsTo known edits caller names point = Leads known edits caller names point.de
 abbrev pub only_reads : Action → Bool
 only_reads action.Read = true
 only_reads (action.Write bytes) = false
+only_reads (action.Append bytes) = false
 only_reads action.List = true
 only_reads (action.Make kind init votes) = false
 only_reads action.Drop = false
