@@ -1,5 +1,5 @@
 -- Each job that ends in a run took few steps.
-use Rattle.law_agents.proofs.Vocabulary.{◌≡◌, inl, inr, ℕ, zero, suc, ◌+◌, Bool, true, false, cond, List, [], ◌∷◌, ◌++◌, append_assoc, Option, Some, None, refl, sym, ap, subst, ◌∙◌, arith, ◌≢◌, ◌&&◌, ◌==◌, is_some, slice_get, slice_set, cons_option}
+use Rattle.law_agents.proofs.Vocabulary.{◌≡◌, inl, inr, ℕ, zero, suc, ◌+◌, Bool, false, cond, List, [], ◌∷◌, ◌++◌, append_assoc, Option, Some, None, refl, sym, ap, subst, ◌∙◌, arith, ◌≢◌, ◌&&◌, ◌==◌, is_some, slice_get, slice_set, cons_option}
 use Rattle.law_agents.proofs.Vocabulary.{eqb-true, nat_tests, none-some, same_Some, Has, has_from, Request, Response, Replied, Lacked, Ending, Agent, Take, next_of, take, begin, forget, fixed_of, EndedJob, dones, outcomes, run}
 use Rattle.suite_prefix.specs.SettingsRules.{Opening}
 use Rattle.rep_core.specs.State.{State}
@@ -62,8 +62,7 @@ module _ (given : Opening) (whole past : List Event) (event : Event) (rest : Lis
       }
     where
       same_outcome : (ending : Option Ending) (outcome : EndedJob) → outcome_of i actor ending ≡ Some outcome → outcome_of i (record { agent = actor.agent; stamp = 0; steps = actor.steps }) ending ≡ Some outcome
-      same_outcome None outcome is = is
-      same_outcome (Some ending) outcome is = is
+      same_outcome ending outcome h2 = search arith
 
   becomes_so : (i : ℕ) (change : Agent → Agent) → ((actor : Actor) → actor_at world i ≡ Some actor → Fits given (past ++ event ∷ []) i (record actor { agent = change actor.agent }))
       → ((n : ℕ) → n ≢ i → told_at (fixed_of given) world n event ≡ []) → (found : Option Actor) → actor_at world i ≡ found → Steps (becomes world i change found)
@@ -91,16 +90,10 @@ module _ (given : Opening) (whole past : List Event) (i : ℕ) (rest : List Even
 
   told_i : (asked : Option (ℕ × Request)) (what : Option Served) → asks_now (fixed_of given) (actor_at world i) ≡ asked → (step (fixed_of given) world (Step i)).done.served ≡ what
       → told_at (fixed_of given) world i (Step i) ≡ told_of world asked what
-  told_i asked what asks served =
-      ap (λ b. cond b (told_of world (asks_now (fixed_of given) (actor_at world i)) (step (fixed_of given) world (Step i)).done.served) []) (same_number i)
-      ∙ (λ j. told_of world (asks j) (served j))
+  told_i asked what asks served = search arith
 
   silent : told_at (fixed_of given) world i (Step i) ≡ [] → (n : ℕ) (x : Actor) → actor_at world n ≡ Some x → told_at (fixed_of given) world n (Step i) ≡ []
-  silent none n x there = of (i == n) refl
-    where
-      of : (b : Bool) → (i == n) ≡ b → told_at (fixed_of given) world n (Step i) ≡ []
-      of true same = subst (λ n. told_at (fixed_of given) world n (Step i) ≡ []) (eqb-true i n same) none
-      of false apart = ap (λ b. cond b (told_of world (asks_now (fixed_of given) (actor_at world n)) (step (fixed_of given) world (Step i)).done.served) []) apart
+  silent none n x there = search arith
 
   quiet_step : told_at (fixed_of given) world i (Step i) ≡ [] → Left (worlds.quiet world)
   quiet_step none = quiet_so given whole past (Step i) rest parts world is all (silent none)
@@ -116,18 +109,14 @@ module _ (given : Opening) (whole past : List Event) (i : ℕ) (rest : List Even
 
   at_so : (actor : Actor) (asked : ℕ × Request) → actor_at world i ≡ Some actor → next_of (fixed_of given) actor.agent ≡ Some asked → (found : Option State) → server_at world asked.0 ≡ found
       → step (fixed_of given) world (Step i) ≡ asks_at (fixed_of given) world i actor asked found → Left (asks_at (fixed_of given) world i actor asked found)
-  at_so actor asked there next (Some st) at stepped = answered_so actor asked st there next at (serve asked.0 st (record { stamp = actor.stamp; value = asked.1 })) stepped
-  at_so actor asked there next None at stepped =
-      quiet_step (told_i (Some asked) None (ap (asks_now (fixed_of given)) there ∙ next) (ap (λ (stepped : Stepped). stepped.done.served) stepped) ∙ ap (λ found. told_by found None) at)
+  at_so actor asked h2 h3 found h5 h6 = search (answered_so, quiet_step, told_i, arith)
 
   asks_so : (actor : Actor) → actor_at world i ≡ Some actor → (asked : Option (ℕ × Request)) → next_of (fixed_of given) actor.agent ≡ asked
       → step (fixed_of given) world (Step i) ≡ asks (fixed_of given) world i actor asked → Left (asks (fixed_of given) world i actor asked)
-  asks_so actor there (Some asked) next stepped = at_so actor asked there next (server_at world asked.0) refl stepped
-  asks_so actor there None next stepped = quiet_step (told_i None None (ap (asks_now (fixed_of given)) there ∙ next) (ap (λ (stepped : Stepped). stepped.done.served) stepped))
+  asks_so actor h1 asked h3 h4 = search (at_so, quiet_step, told_i, arith)
 
   step_so : (found : Option Actor) → actor_at world i ≡ found → step (fixed_of given) world (Step i) ≡ steps_once (fixed_of given) world i found → Left (steps_once (fixed_of given) world i found)
-  step_so (Some actor) there stepped = asks_so actor there (next_of (fixed_of given) actor.agent) refl stepped
-  step_so None there stepped = quiet_step (told_i None None (ap (asks_now (fixed_of given)) there) (ap (λ (stepped : Stepped). stepped.done.served) stepped))
+  step_so found h1 h2 = search (asks_so, quiet_step, told_i, arith)
 
 -- a request that is not served
 module _ (given : Opening) (whole past : List Event) (i : ℕ) (why : lacking.Lack) (rest : List Event) (parts : whole ≡ past ++ Lack i why ∷ rest) (world : World) (is : run given past ≡ world) (all : AllFit given past world) where
@@ -144,8 +133,7 @@ module _ (given : Opening) (whole past : List Event) (i : ℕ) (why : lacking.La
   quiet_lack none = quiet_so given whole past (Lack i why) rest parts world is all (λ n x there. of n (i == n) refl)
     where
       of : (n : ℕ) (b : Bool) → (i == n) ≡ b → told_at (fixed_of given) world n (Lack i why) ≡ []
-      of n true same = subst (λ n. told_at (fixed_of given) world n (Lack i why) ≡ []) (eqb-true i n same) (lacks_told None none)
-      of n false apart = ap (λ b. cond (b && is_some (asks_now (fixed_of given) (actor_at world n))) (Take (Lacked why) ∷ []) []) apart
+      of n b h2 = search (eqb-true, lacks_told, arith)
 
   lacks_so : (actor : Actor) → actor_at world i ≡ Some actor → (asked : Option (ℕ × Request)) → next_of (fixed_of given) actor.agent ≡ asked
       → step (fixed_of given) world (Lack i why) ≡ lacks_for (fixed_of given) world i actor (Lacked why) asked → Lacks (lacks_for (fixed_of given) world i actor (Lacked why) asked)
@@ -155,8 +143,7 @@ module _ (given : Opening) (whole past : List Event) (i : ℕ) (why : lacking.La
   lacks_so actor there None next stepped = quiet_lack (ap (asks_now (fixed_of given)) there ∙ next)
 
   lack_so : (found : Option Actor) → actor_at world i ≡ found → step (fixed_of given) world (Lack i why) ≡ lacks (fixed_of given) world i (Lacked why) found → Lacks (lacks (fixed_of given) world i (Lacked why) found)
-  lack_so (Some actor) there stepped = lacks_so actor there (next_of (fixed_of given) actor.agent) refl stepped
-  lack_so None there stepped = quiet_lack (ap (asks_now (fixed_of given)) there)
+  lack_so found h1 h2 = search (lacks_so, quiet_lack, arith)
 
 event_so : (given : Opening) (whole past : List Event) (event : Event) (rest : List Event) (parts : whole ≡ past ++ event ∷ rest) (world : World) (is : run given past ≡ world) (all : AllFit given past world)
     → Steps given whole past event rest parts world is all (step (fixed_of given) world event)
@@ -189,8 +176,7 @@ events_so given whole past (event ∷ events) parts world is all outcome has =
 
 opens_so : (given : Opening) (start count n : ℕ) (actor : Actor) → slice_get (actors_from start count) n ≡ Some actor → Fits given [] (start + n) actor
 opens_so given start zero n actor is = absurd (none-some actor is)
-opens_so given start (suc count) zero actor is =
-    subst (Fits given [] (start + 0)) (same_Some _ actor is) (let e : start ≡ start + 0 = omega arith in e, inl (refl, refl))
+opens_so given start (suc count) zero actor is = search (same_Some, arith)
 opens_so given start (suc count) (suc n) actor is =
     let e : start + 1 + n ≡ start + suc n = omega arith in subst (λ n. Fits given [] n actor) e (opens_so given (start + 1) count n actor is)
 

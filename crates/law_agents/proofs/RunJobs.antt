@@ -1,19 +1,18 @@
 -- A job of an agent in a run: what it was told there since its begin, and how many steps it took.
 use Rattle.law_agents.proofs.Vocabulary.{◌≡◌, ◌⊎◌, inl, inr, ℕ, ◌+◌, ◌≤◌, Bool, true, false, cond, List, [], ◌∷◌, ◌++◌, append_assoc, length, Option, Some, None, refl, sym, ap, subst, ◌∙◌, arith, ◌&&◌, ◌*◌, ◌-◌, ◌==◌, min, nat_lt, nat_tests}
-use Rattle.law_agents.proofs.Vocabulary.{append-nil, none-some, same_Some, Identity, Op, Request, Response, Ending, Job, Transaction, Sweep, Fixed, Doing, Running, RunningSweep, After, GoesOn, Ends, Agent, Taken, Take, next_in, next_of, left, end_of}
-use Rattle.law_agents.proofs.Vocabulary.{take_in, take, begin, begins, started, forget, is_idle, has_sense, max_jobs, fixed_of, Exchange, exchange_of, of_job, among, asks_only, names_only, listed, ends_in_time, sweep_ends_in_time, after-append}
+use Rattle.law_agents.proofs.Vocabulary.{append-nil, none-some, same_Some, Identity, Op, Request, Response, Ending, Job, Transaction, Sweep, Fixed, Doing, Running, RunningSweep, After, Agent, Taken, Take, next_in, next_of, left, end_of, take_in}
+use Rattle.law_agents.proofs.Vocabulary.{take, begin, begins, started, forget, is_idle, has_sense, max_jobs, fixed_of, Exchange, exchange_of, of_job, among, asks_only, names_only, listed, ends_in_time, sweep_ends_in_time, after-append}
 use Rattle.law_agents.proofs.Vocabulary.{exchanges-take, exchanges-forget, EndedJob, after, run, agent_after, VotesAreValid, is_known}
 use Rattle.std.proofs.Math.Nat.{min-le_left}
 use Rattle.suite_prefix.specs.SettingsRules.{Opening}
 use Rattle.rep_core.specs.Store.{last_number}
 use Rattle.run_core.specs.declared.event.Event.TheVariants.{Begin, Forget}
-use Rattle.run_core.specs.Worlds.{World, Actor, actor_at, one_more, steps_after, outcome_of, opening, step}
+use Rattle.run_core.specs.Worlds.{World, Actor, actor_at, one_more, steps_after, outcome_of, step}
 use Rattle.law_agents.specs.RunBounds.{told_at, EndsInItsTime, told_in}
 use Rattle.run_core.specs.declared.event.Event.{Event}
 use Rattle.txn_core.specs.Transactions as transactions
 use Rattle.txn_core.specs.Sweeps as sweep
 use Rattle.txn_core.specs.Agents as agents
-use Rattle.run_core.specs.Worlds as worlds
 use Rattle.run_core.proofs.Appending as going
 use Rattle.law_agents.proofs.Ends.{asked_are_known}
 use Rattle.law_agents.proofs.AllResponses.{length_append}
@@ -61,8 +60,7 @@ told_more fixed world n (first ∷ events) event =
 module _ (given : Opening) (past : List Event) (event : Event) (world : World) (is : run given past ≡ world) (n : ℕ) where
   -- the world of the run where the job goes on
   here : (before : Agent) (job : Job) (told : List agents.Event) (stands : Stands given past n before job told) → after (fixed_of given) (run given stands.front) (Begin n job ∷ stands.between) ≡ world
-  here before job told stands =
-      sym (going.after-append (fixed_of given) (worlds.opening given) stands.front (Begin n job ∷ stands.between)) ∙ ap (run given) (sym stands.split) ∙ is
+  here before job told stands = search (going.after-append, arith)
 
   told_on : (before : Agent) (job : Job) (told more : List agents.Event) (stands : Stands given past n before job told) → told_at (fixed_of given) world n event ≡ more
       → told_in (fixed_of given) (run given stands.front) n (Begin n job ∷ stands.between ++ event ∷ []) ≡ told ++ more
@@ -72,15 +70,7 @@ module _ (given : Opening) (past : List Event) (event : Event) (world : World) (
       ∙ ap (λ more. told ++ more) now
 
   stands_more : (before : Agent) (job : Job) (told more : List agents.Event) → told_at (fixed_of given) world n event ≡ more → Stands given past n before job told → Stands given (past ++ event ∷ []) n before job (told ++ more)
-  stands_more before job told more now stands = record {
-    front = stands.front;
-    between = stands.between ++ event ∷ [];
-    split = ap (λ past. past ++ event ∷ []) stands.split ∙ append_assoc stands.front (Begin n job ∷ stands.between) (event ∷ []);
-    actor = stands.actor;
-    there = stands.there;
-    was = stands.was;
-    told_is = told_on before job told more stands now;
-  }
+  stands_more before job told more now stands = search (told_on before job told more stands now, append_assoc, arith)
 
   -- it is told nothing
   pub stays : (agent : Agent) (steps : ℕ) → told_at (fixed_of given) world n event ≡ [] → Has' given past n agent steps → Has' given (past ++ event ∷ []) n agent steps
@@ -92,15 +82,7 @@ module _ (given : Opening) (past : List Event) (event : Event) (world : World) (
 -- ---- it begins a job
 
 pub begun_index : (fixed : Fixed) (agent : Agent) (job : Job) → (begin fixed agent job).index ≡ agent.index
-begun_index fixed agent job = of (begins fixed agent job) job
-  where
-    by : (job : Job) → (started fixed agent job).index ≡ agent.index
-    by (Transaction caller site ops) = refl
-    by (Sweep server) = refl
-
-    of : (b : Bool) (job : Job) → (cond b (record (started fixed agent job) { count = agent.count + 1 }) agent).index ≡ agent.index
-    of true job = by job
-    of false job = refl
+begun_index fixed agent job = search arith
 
 module _ (given : Opening) (past : List Event) (world : World) (is : run given past ≡ world) (n : ℕ) (job : Job) (actor : Actor) (there : actor_at world n ≡ Some actor) where
   abbrev begun : Agent
@@ -180,8 +162,7 @@ IsTold agent taken =
 
 by_after : {D : Type 0} (as_doing : D → Doing) (after : After D)
     → ((end_of after ≡ None) × (is_idle (left as_doing after) ≡ false)) ⊎ ((ending : Ending) × (end_of after ≡ Some ending) × (is_idle (left as_doing after) ≡ true))
-by_after as_doing (GoesOn more) = inl (refl, refl)
-by_after as_doing (Ends ending) = inr (ending, refl, refl)
+by_after as_doing after = search arith
 
 is_told : (fixed : Fixed) (agent : Agent) (heard : Response) (doing : Option Doing) (asked : ℕ × Request) → next_in fixed doing ≡ Some asked → IsTold agent (take_in fixed agent heard doing (Some asked))
 is_told fixed agent heard None asked is = cc
@@ -205,11 +186,7 @@ module _ (fixed : Fixed) (n : ℕ) (agent : Agent) (steps : ℕ) (heard : Respon
   told_so = subst (IsTold agent) (sym now_is) (is_told fixed agent heard agent.doing asked next)
 
   idle_asks : {P : Type 0} → is_idle agent.doing ≡ true → P
-  idle_asks {P = P} idle = of agent.doing idle next
-    where
-      of : (doing : Option Doing) → is_idle doing ≡ true → next_in fixed doing ≡ Some asked → P
-      of None idle is = cc
-      of (Some doing) idle is = cc
+  idle_asks idle = search arith
 
   module _ (since : Since fixed n agent steps) where
     abbrev more : List agents.Event
@@ -219,26 +196,13 @@ module _ (fixed : Fixed) (n : ℕ) (agent : Agent) (steps : ℕ) (heard : Respon
     past_now = of_job fixed since.before since.job more
 
     past_more : past_now ≡ of_job fixed since.before since.job since.told ++ exchange_of (Some asked) heard
-    past_more =
-        exchanges-take fixed (begin fixed since.before since.job) since.told heard
-        ∙ ap (λ asked. of_job fixed since.before since.job since.told ++ exchange_of asked heard) (ap (next_of fixed) (sym since.is) ∙ next)
+    past_more = search (exchanges-take, arith)
 
     steps_more : one_more steps ≡ min (length past_now) last_number
-    steps_more =
-        ap one_more since.taken ∙ one_more_of (length (of_job fixed since.before since.job since.told))
-        ∙ ap (λ count. min count last_number) (sym (ap length past_more ∙ length_append (of_job fixed since.before since.job since.told) (exchange_of (Some asked) heard)))
+    steps_more = search (one_more_of, past_more, length_append, arith)
 
     since_more : Since fixed n now.agent (one_more steps)
-    since_more = record {
-      before = since.before;
-      job = since.job;
-      told = more;
-      idle = since.idle;
-      index = since.index;
-      is = ap (λ (agent : Agent). (take fixed agent heard).agent) since.is ∙ sym (after-append fixed (begin fixed since.before since.job) since.told (Take heard));
-      counted = told_so.1 ∙ since.counted;
-      taken = steps_more;
-    }
+    since_more = search (after-append, steps_more, arith)
 
     few : one_more steps ≤ length past_now
     few = let least = at_most (length past_now) last_number in let is = steps_more in omega (arith, least, is)
@@ -246,19 +210,10 @@ module _ (fixed : Fixed) (n : ℕ) (agent : Agent) (steps : ℕ) (heard : Respon
     transaction_bound : (caller : Identity) (site : ℕ) (ops : List Op) (servers suites : List ℕ) (job : Job) → job ≡ Transaction caller site ops → one_more steps ≤ length (of_job fixed since.before job more)
         → asks_only servers (of_job fixed since.before job more) ≡ true → names_only suites (of_job fixed since.before job more) ≡ true
         → one_more steps ≤ length suites * (2 * length servers + 1) + 2 * length servers + 1
-    transaction_bound caller site ops servers suites job is few servers_are names =
-        let past : Job → List Exchange = λ job. of_job fixed since.before job more in
-        let bound = ends_in_time fixed since.before caller site ops more servers suites since.idle (subst (λ job. asks_only servers (past job) ≡ true) is servers_are) (subst (λ job. names_only suites (past job) ≡ true) is names) in
-        let less : one_more steps ≤ length (past (Transaction caller site ops)) = subst (λ job. one_more steps ≤ length (past job)) is few in
-        omega (arith, bound, less)
+    transaction_bound caller site ops servers suites job is few servers_are names = search (ends_in_time, arith)
 
     sweep_bound : (server : ℕ) (job : Job) → job ≡ Sweep server → one_more steps ≤ length (of_job fixed since.before job more) → one_more steps ≤ 1 + 2 * listed (of_job fixed since.before job more)
-    sweep_bound server job is few =
-        let past : Job → List Exchange = λ job. of_job fixed since.before job more in
-        subst (λ job. one_more steps ≤ 1 + 2 * listed (past job)) (sym is)
-        (let bound = sweep_ends_in_time fixed since.before server more since.idle in
-        let less : one_more steps ≤ length (past (Sweep server)) = subst (λ job. one_more steps ≤ length (past job)) is few in
-        omega (arith, bound, less))
+    sweep_bound server job is few = search (sweep_ends_in_time, arith)
 
 -- ---- it is told so in an event of a run
 
@@ -291,8 +246,7 @@ module _ (given : Opening) (whole past : List Event) (event : Event) (rest : Lis
     past = past_now';
     past_is = ap (λ (before : Agent). of_job fixed before since.job (more fixed n agent steps heard asked next since)) (sym stands.was);
     steps = steps_more fixed n agent steps heard asked next since;
-    transaction = λ caller site ops servers suites job servers_are names.
-        transaction_bound fixed n agent steps heard asked next since caller site ops servers suites since.job job (few fixed n agent steps heard asked next since) servers_are names;
+    transaction = search (transaction_bound, fixed, few, arith);
     known = λ servers. subst (λ before. Knows servers before) (sym stands.was) (λ valid all. asked_are_known fixed since.before since.job (more fixed n agent steps heard asked next since) servers since.idle valid all);
     sweep = λ server job. sweep_bound fixed n agent steps heard asked next since server since.job job (few fixed n agent steps heard asked next since);
   }
@@ -322,5 +276,4 @@ module _ (given : Opening) (whole past : List Event) (event : Event) (rest : Lis
       → (ending : Option Ending) → taken.ending ≡ ending → outcome_of n (record { agent = agent; stamp = 0; steps = steps }) ending ≡ Some outcome → EndsInItsTime given whole outcome
   ends_now (inl idle) outcome ended ending was so = idle_asks (fixed_of given) n agent steps heard asked next idle.0
   ends_now (inr busy) outcome ended None was so = absurd (none-some outcome so)
-  ends_now (inr busy) outcome ended (Some ending) was so =
-      subst (EndsInItsTime given whole) (same_Some _ outcome so) (in_time busy.1 busy.2 ending was (ended ∙ sym so))
+  ends_now (inr busy) outcome ended (Some ending) was so = search (in_time busy.1 busy.2 ending was (ended ∙ sym so), same_Some, arith)

@@ -1,10 +1,9 @@
 -- Agents that were told the same ask the same.
-use Rattle.law_agents.proofs.Vocabulary.{◌≡◌, true, Option, Some, None, refl, sym, ap, ◌∙◌, Doing, Agent, next_of, take, begin, is_idle, after_all, of_job}
+use Rattle.law_agents.proofs.Vocabulary.{◌≡◌, true, Option, None, sym, ap, ◌∙◌, Doing, Agent, next_of, take, begin, is_idle, after_all, of_job, arith}
 use Rattle.law_agents.specs.Same.{SameToldSameAsked}
 
 idle_none : (doing : Option Doing) → is_idle doing ≡ true → doing ≡ None
-idle_none None idle = refl
-idle_none (Some doing) idle = cc
+idle_none doing h1 = search arith
 
 same_agents : (one other : Agent) → one.index ≡ other.index → one.count ≡ other.count → one.cache ≡ other.cache → one.doing ≡ other.doing → one ≡ other
 same_agents one other index count cache doing = λ i. record { index = index i; count = count i; cache = cache i; doing = doing i }

@@ -1,7 +1,7 @@
 -- Agents keep nothing for sites that are not there: an agent by itself, and each agent of a run.
-use Rattle.law_agents.proofs.Vocabulary.{◌≡◌, ◌⊎◌, inl, inr, ℕ, zero, suc, ◌+◌, ◌<◌, Bool, true, false, cond, List, [], ◌∷◌, ◌++◌, append_assoc, Option, Some, None, refl, sym, ap, subst, ◌∙◌, arith, ◌&&◌, nat_lt, slice_get, false≢true, and_parts}
-use Rattle.law_agents.proofs.Vocabulary.{nat_tests, append-nil, none-some, same_Some, Request, Entry, Response, Job, Fixed, Doing, Agent, Take, next_in, next_of, take_in, take, begin, begins, started, forget, is_idle, has_sense, max_jobs, max_sites}
-use Rattle.law_agents.proofs.Vocabulary.{after_all, fixed_of, after-append, after, agent_after}
+use Rattle.law_agents.proofs.Vocabulary.{◌≡◌, ◌⊎◌, inl, inr, ℕ, zero, suc, ◌+◌, ◌<◌, Bool, true, false, cond, List, [], ◌∷◌, ◌++◌, append_assoc, Option, Some, refl, sym, ap, subst, ◌∙◌, arith, ◌&&◌, nat_lt, slice_get, nat_tests, append-nil}
+use Rattle.law_agents.proofs.Vocabulary.{none-some, same_Some, Request, Entry, Response, Job, Fixed, Doing, Agent, Take, next_in, next_of, take_in, take, begin, started, forget, is_idle, has_sense, max_jobs, max_sites, fixed_of, after-append, after}
+use Rattle.law_agents.proofs.Vocabulary.{agent_after}
 use Rattle.txn_core.specs.Caching.{IsFetched}
 use Rattle.txn_core.proofs.Caching.{caches_what_was_fetched}
 use Rattle.run_core.specs.Worlds.{World, Actor, actors_from, opening, step}
@@ -16,26 +16,14 @@ use Rattle.law_agents.proofs.AllResponses.{busy_before}
 
 -- a job that keeps its agent busy had sense
 had_sense : (fixed : Fixed) (agent : Agent) (job : Job) → is_idle agent.doing ≡ true → is_idle (begin fixed agent job).doing ≡ false → has_sense fixed job ≡ true
-had_sense fixed agent job idle busy = of (begins fixed agent job) refl busy
-  where
-    of : (b : Bool) → begins fixed agent job ≡ b → is_idle (cond b (record (started fixed agent job) { count = agent.count + 1 }) agent).doing ≡ false → has_sense fixed job ≡ true
-    of true is busy = (and_parts (is_idle agent.doing) (has_sense fixed job) (and_parts (is_idle agent.doing && has_sense fixed job) (nat_lt agent.count max_jobs) is).0).1
-    of false is busy = absurd (false≢true (sym busy ∙ idle))
+had_sense fixed agent job idle busy = search arith
 
 asks_busy : (fixed : Fixed) (doing : Option Doing) (asked : ℕ × Request) → next_in fixed doing ≡ Some asked → is_idle doing ≡ false
-asks_busy fixed (Some doing) asked is = refl
-asks_busy fixed None asked is = absurd (none-some asked is)
+asks_busy fixed doing asked h3 = search arith
 
 -- what was fetched is of a site that is there
 fetched_there : (fixed : Fixed) (agent : Agent) (job : Job) (events : List agents.Event) (response : Response) (entry : Entry) → is_idle agent.doing ≡ true → IsFetched fixed agent job events response entry → entry.site < max_sites
-fetched_there fixed agent job events response entry idle fetched =
-    let busy = asks_busy fixed (after_all fixed (begin fixed agent job) events).doing _ fetched.asked in
-    let sense = had_sense fixed agent job idle (busy_before fixed (begin fixed agent job) events busy) in
-    let there : nat_lt fetched.site max_sites ≡ true = ap (has_sense fixed) (sym fetched.transaction) ∙ sense in
-    subst (λ site. site < max_sites) (sym fetched.at) (less fetched.site there)
-  where
-    less : (site : ℕ) → nat_lt site max_sites ≡ true → site < max_sites
-    less site is = grind (arith, nat_tests)
+fetched_there fixed agent job events response entry idle fetched = search (asks_busy, had_sense, busy_before, nat_lt, nat_tests, arith)
 
 begun_keeps : (fixed : Fixed) (agent : Agent) (job : Job) → KeepsToSites agent → KeepsToSites (begin fixed agent job)
 begun_keeps fixed agent job keeps entry there = keeps entry (caches_what_was_fetched.begun fixed agent job entry there)
@@ -55,9 +43,7 @@ event_keeps fixed agent job events (agents.Forget site) idle keeps =
 
 all_keep : (fixed : Fixed) (agent : Agent) (job : Job) (events more : List agents.Event) → is_idle agent.doing ≡ true → KeepsToSites (agent_after fixed agent job events) → KeepsToSites (agent_after fixed agent job (events ++ more))
 all_keep fixed agent job events [] idle keeps = subst (λ events. KeepsToSites (agent_after fixed agent job events)) (sym (append-nil events)) keeps
-all_keep fixed agent job events (event ∷ more) idle keeps =
-    subst (λ events. KeepsToSites (agent_after fixed agent job events)) (append_assoc events (event ∷ []) more)
-    (all_keep fixed agent job (events ++ event ∷ []) more idle (event_keeps fixed agent job events event idle keeps))
+all_keep fixed agent job events (event ∷ more) idle keeps = search (append_assoc, event_keeps, all_keep fixed agent job (events ++ event ∷ []) more idle, arith)
 
 pub agents_stay_so : AgentsStaySo
 agents_stay_so fixed agent job events idle keeps = all_keep fixed agent job [] events idle (begun_keeps fixed agent job keeps)
@@ -87,8 +73,7 @@ event_fits fixed agent event keeps since =
     }
 
 taken_idle : (fixed : Fixed) (agent : Agent) (response : Response) (doing : Option Doing) (asked : Option (ℕ × Request)) → is_idle doing ≡ true → (take_in fixed agent response doing asked).agent ≡ agent
-taken_idle fixed agent response None asked idle = refl
-taken_idle fixed agent response (Some doing) asked idle = absurd (false≢true idle)
+taken_idle fixed agent response doing asked h5 = search arith
 
 takes : (fixed : Fixed) (agent : Agent) (response : Response) → Fits fixed agent → Fits fixed (take fixed agent response).agent
 takes fixed agent response fits = elim fits.since [
@@ -125,8 +110,7 @@ events_all fixed world (event ∷ events) all = events_all fixed (step fixed wor
 
 opens_so : (fixed : Fixed) (start count n : ℕ) (actor : Actor) → slice_get (actors_from start count) n ≡ Some actor → Fits fixed actor.agent
 opens_so fixed start zero n actor is = absurd (none-some actor is)
-opens_so fixed start (suc count) zero actor is =
-    subst (λ (actor : Actor). Fits fixed actor.agent) (same_Some _ actor is) (record { keeps = λ entry there. absurd (has_from [] entry there); since = inl refl })
+opens_so fixed start (suc count) zero actor is = search (same_Some, has_from, arith)
 opens_so fixed start (suc count) (suc n) actor is = opens_so fixed (start + 1) count n actor is
 
 pub runs_keep_to : RunsKeepTo

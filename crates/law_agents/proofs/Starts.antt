@@ -1,8 +1,8 @@
 -- With valid votes a suite that is gathered was told of, so a lock on it was asked for at its start.
-use Rattle.law_agents.proofs.Vocabulary.{◌≡◌, inl, inr, ℕ, zero, suc, ◌<◌, Bool, true, false, List, [], ◌∷◌, ◌++◌, append_assoc, Option, Some, None, refl, sym, ap, subst, ◌∙◌, arith, is_some, option_map, unwrap_or, Contains, false≢true}
-use Rattle.law_agents.proofs.Vocabulary.{Contains-append_left, Representative, Configuration, total_votes, IsValid, absent_prefix, Prefix, LockMode, Exclusive, Has, contains_from, Said, Told, has_told, newest, Collector, next, Current, hint}
-use Rattle.law_agents.proofs.Vocabulary.{hint_has, has_to, GatheredSuite, known_of, change_of, Job, Fixed, Change, Agent, Event, Take, Forget, next_of, take, begin, forget, is_idle, after_all, Exchange, exchange_of, exchanges, of_job, told_of}
-use Rattle.law_agents.proofs.Vocabulary.{has_said, holding, refusing, task_of, IsStart, WasGathered, SetsVotes, IsShort, untold_before, kind_of, told_said, agent_after, VotesAreValid}
+use Rattle.law_agents.proofs.Vocabulary.{◌≡◌, inl, inr, ℕ, ◌<◌, Bool, true, false, List, [], ◌∷◌, ◌++◌, append_assoc, Option, Some, None, refl, sym, ap, subst, ◌∙◌, arith, is_some, option_map, unwrap_or, Contains, false≢true, Contains-append_left}
+use Rattle.law_agents.proofs.Vocabulary.{Representative, Configuration, total_votes, IsValid, absent_prefix, Prefix, LockMode, Exclusive, Has, contains_from, Said, Told, has_told, newest, Collector, next, Current, hint, hint_has, has_to}
+use Rattle.law_agents.proofs.Vocabulary.{GatheredSuite, known_of, change_of, Job, Fixed, Change, Agent, Event, Take, Forget, next_of, take, begin, forget, is_idle, after_all, Exchange, exchange_of, exchanges, of_job, told_of, has_said, holding}
+use Rattle.law_agents.proofs.Vocabulary.{refusing, task_of, IsStart, WasGathered, SetsVotes, IsShort, untold_before, kind_of, told_said, agent_after, VotesAreValid}
 use Rattle.file_exec.specs.KnownSuites.{KnownSuite}
 use Rattle.file_exec.proofs.Unset.{changes_are_held}
 use Rattle.suite_collect.proofs.Sources.{some_needed}
@@ -15,15 +15,11 @@ use Rattle.law_agents.proofs.Ends.{caches_stay_valid}
 -- ---- votes of which nobody has any
 
 zero_of : (n : ℕ) → (0 < n → ⊥) → n ≡ 0
-zero_of zero none = refl
-zero_of (suc n) none = absurd (none (omega arith))
+zero_of n h1 = search arith
 
 no_total : (reps : List Representative) → ((rep : Representative) → Has reps rep → 0 < rep.1 → ⊥) → total_votes reps ≡ 0
 no_total [] none = refl
-no_total (rep ∷ reps) none =
-    let here = zero_of rep.1 (none rep (inl refl)) in
-    let rest = no_total reps (λ other has. none other (inr has)) in
-    omega (arith, here, rest)
+no_total (rep ∷ reps) none = search (zero_of rep.1 (none rep (inl refl)), no_total reps, arith)
 
 -- ---- nothing was told of a suite
 
@@ -80,9 +76,7 @@ module _ (fixed : Fixed) (agent : Agent) (job : Job) (events : List Event) (idle
   -- ---- a suite that was gathered
 
   gathered_told : (number : ℕ) (suite : GatheredSuite) → WasGathered fixed agent job events number suite → told_of number [] past ≡ [] → ⊥
-  gathered_told number suite was none =
-      untold_short was.start was.gave.mode (told_of number [] was.gave.before) was.first.prefix was.first.dver was.gave.members (start_valid number was.start was.gathered)
-      (untold_before number past was.gave.before was.gave.later none was.gave.parts) was.gave.gave
+  gathered_told number suite was none = search (untold_short, start_valid, untold_before, arith)
 
   gathered_asked : (number : ℕ) (suite : GatheredSuite) (was : WasGathered fixed agent job events number suite) → IsAsked fixed agent job events number was.start was.gathered
   gathered_asked number suite was = elim was.gathered.moment [
@@ -100,12 +94,10 @@ module _ (fixed : Fixed) (agent : Agent) (job : Job) (events : List Event) (idle
       (there.0, sets.gathered suite there.0 there.1)
     where
       changed : (change : Option Change) → option_map (λ (change : Change). change.row.votes) change ≡ Some votes → is_some change ≡ true
-      changed (Some change) are = refl
-      changed None are = cc
+      changed change h1 = search arith
 
       known_held : (found : Option KnownSuite) → known.is_held Exclusive found ≡ true → is_some found ≡ true
-      known_held (Some held) is = refl
-      known_held None is = is
+      known_held found h1 = search arith
 
   short_told : (suite got needed : ℕ) (busy : Option (ℕ × ℕ)) → IsShort fixed agent job events suite got needed busy → told_of suite [] past ≡ [] → ⊥
   short_told suite got needed busy short none = elim short.count [
@@ -120,10 +112,7 @@ module _ (fixed : Fixed) (agent : Agent) (job : Job) (events : List Event) (idle
       ]
 
       too_few : IsValid short.votes → ⊥
-      too_few votes =
-          let some = votes.some_votes in
-          let total = no_total short.votes.reps nobody in
-          omega (arith, some, total)
+      too_few votes = search (no_total, nobody, arith)
 
   short_asked : (suite got needed : ℕ) (busy : Option (ℕ × ℕ)) (short : IsShort fixed agent job events suite got needed busy) → IsAsked fixed agent job events suite short.start short.gathered
   short_asked suite got needed busy short = elim short.gathered.moment [
@@ -132,7 +121,4 @@ module _ (fixed : Fixed) (agent : Agent) (job : Job) (events : List Event) (idle
   ]
 
 pub starts_are_asked : StartsAreAsked
-starts_are_asked = record {
-  short = λ fixed agent job events suite got needed busy idle valid short. short_asked fixed agent job events idle valid suite got needed busy short;
-  gathered = λ fixed agent job events number suite idle valid was. gathered_asked fixed agent job events idle valid number suite was;
-}
+starts_are_asked = search (short_asked, gathered_asked, arith)

@@ -1,21 +1,21 @@
 -- The names that the proofs of this crate take from elsewhere, each with one meaning here.
-pub use Rattle.std.proofs.Common.{Bool, Contains, Equal, Err, Greater, IsSome, Less, List, None, Ok, Option, Some, [], ap, append_assoc, arith, cond, false, filter, find, inl, inr, is_some, length, map, min, nat_le, nat_lt, not, option_map, refl}
-pub use Rattle.std.proofs.Common.{slice_get, slice_set, subst, suc, sym, true, zero, ℕ, ⊎_elim, ◌&&◌, ◌*◌, ◌++◌, ◌+◌, ◌-◌, ◌<◌, ◌==◌, ◌||◌, ◌∙◌, ◌∷◌, ◌≡◌, ◌≢◌, ◌≤◌, ◌⊎◌}
-pub use Rattle.std.proofs.lemmas.Bool.{and_parts, eq-eqb, eqb-true, false≢true}
+pub use Rattle.std.proofs.Common.{Bool, Contains, Err, IsSome, List, None, Ok, Option, Some, [], ap, append_assoc, arith, cond, false, filter, find, inl, inr, is_some, length, map, min, nat_le, nat_lt, not, option_map, refl, slice_get, slice_set}
+pub use Rattle.std.proofs.Common.{subst, suc, sym, true, zero, ℕ, ⊎_elim, ◌&&◌, ◌*◌, ◌++◌, ◌+◌, ◌-◌, ◌<◌, ◌==◌, ◌||◌, ◌∙◌, ◌∷◌, ◌≡◌, ◌≢◌, ◌≤◌, ◌⊎◌}
+pub use Rattle.std.proofs.lemmas.Bool.{eq-eqb, eqb-true, false≢true}
 pub use Rattle.std.proofs.lemmas.Bool.Decides.{nat_tests}
 pub use Rattle.std.proofs.lemmas.List.{append-nil, map-append}
 pub use Rattle.std.proofs.lemmas.List.Elements.{Contains-append_left, Contains-append_right, Contains-push_cases, filter-append}
 pub use Rattle.std.proofs.lemmas.Option.{none-some, same_Some}
 pub use Rattle.std.specs.BTreeMap.{is_at}
 pub use Rattle.std.specs.List.{cons_option, list_all, list_any}
-pub use Rattle.std.specs.Ordering.{match_ordering, nat_cmp}
+pub use Rattle.std.specs.Ordering.{nat_cmp}
 pub use Rattle.std.specs.Prelude.{unwrap_or}
 pub use Rattle.acl_core.specs.Identity.{Identity}
 pub use Rattle.file_exec.proofs.Licensing.{known_licensed, reads_known}
 pub use Rattle.file_exec.specs.Known.{Done, Heard, Known, Needs, exec_of, known_rows}
 pub use Rattle.file_exec.specs.declared.changes.Change.{Change}
 pub use Rattle.file_exec.specs.declared.edit_log.Edit.{Edit}
-pub use Rattle.file_exec.specs.declared.edit_log.Edit.TheVariants.{Make, SetAcl, SetContent, SetVotes}
+pub use Rattle.file_exec.specs.declared.edit_log.Edit.TheVariants.{Make, SetVotes}
 pub use Rattle.file_exec.specs.declared.executor.Outcome.{Outcome}
 pub use Rattle.file_exec.specs.declared.need.Need.TheVariants.{Hold, Know}
 pub use Rattle.file_ops.specs.KnownVotes.{lists_unknown}
@@ -31,7 +31,7 @@ pub use Rattle.rep_core.specs.declared.reply.Verdict.{Verdict}
 pub use Rattle.rep_core.specs.declared.request.Request.{Request}
 pub use Rattle.run_core.specs.Runs.{after, dones, outcomes, run}
 pub use Rattle.run_core.specs.declared.done.EndedJob.{EndedJob}
-pub use Rattle.sorted_map.specs.SortedMap.{IsOrdered, insert}
+pub use Rattle.sorted_map.specs.SortedMap.{IsOrdered}
 pub use Rattle.suite_collect.specs.Collecting.{Ask, Asked, Collector, Current, Next, Poll, Upgrade, all_told, ask_or_short, asked_of, counted, got, is_left, is_member, members_of, mode_asked, mode_of, mode_or, needed, next, request_for, tell}
 pub use Rattle.suite_collect.specs.Collecting.{told_since, version, votes_or, wanted}
 pub use Rattle.suite_collect.specs.Telling.{has_told, holds, is_held, newer, newest}
@@ -58,10 +58,10 @@ pub use Rattle.txn_core.specs.Doing.{After, Breaking, Changes, Deciding, Doing, 
 pub use Rattle.txn_core.specs.Doing.{TransactionRun, Widening, home_of}
 pub use Rattle.txn_core.specs.Laws.{Exchange, IsReady, IsStart, among, asks_only, count_of, exchange_of, exchanges, has_said, holding, is_decide, is_prepare, listed, listed_in, locks, more_told, names_of, names_only, of_job, refusing, said_by}
 pub use Rattle.txn_core.specs.Laws.{says_held, says_prepared, task_of, told_by, told_of, told_verdict, was_held}
-pub use Rattle.txn_core.specs.Suites.{GatheredSuite, ReadPoint, Suites, first_or, has_locks, holds_lock, known_if, known_of, known_row, row_with, settled, source_of, suite_of, told_in, with_suite}
-pub use Rattle.txn_core.specs.Transactions.{Gathered, Step, after_response, after_search, asked_by, asked_for, cause_of_abort, changes_of, collected, decision_of, ending_by, execute, fetched, fetched_at, fetched_for, free_content, gather_by, give_up}
-pub use Rattle.txn_core.specs.Transactions.{given_in, hear, heard_of, heard_on, keep_content, lack_cause, locked_at, numbers_from, open_first, open_needed, open_suite, opened, opened_with, or_all, prepare, prepared, proceed, raised_or_new}
-pub use Rattle.txn_core.specs.Transactions.{request_in, request_of, said_to, short_cause, start_from, tell_end, to_widen, verdict_in, votes_after, votes_then, widen_all, widen_by, widen_one, widened}
+pub use Rattle.txn_core.specs.Suites.{GatheredSuite, ReadPoint, Suites, first_or, has_locks, known_if, known_of, known_row, row_with, settled, source_of, suite_of, told_in, with_suite}
+pub use Rattle.txn_core.specs.Transactions.{Gathered, Step, after_response, after_search, asked_by, asked_for, cause_of_abort, changes_of, collected, decision_of, ending_by, execute, fetched, fetched_at, fetched_for, gather_by, give_up, given_in}
+pub use Rattle.txn_core.specs.Transactions.{hear, heard_of, heard_on, keep_content, lack_cause, locked_at, numbers_from, open_first, open_needed, open_suite, opened, opened_with, or_all, prepare, prepared, proceed, raised_or_new, request_in}
+pub use Rattle.txn_core.specs.Transactions.{request_of, said_to, short_cause, start_from, tell_end, verdict_in, widen_all, widen_by, widen_one, widened}
 pub use Rattle.txn_core.specs.Undecided.{IsShort, SetsVotes, WasGathered, is_finish}
 pub use Rattle.txn_core.specs.Writing.{change_of, parts_at}
 pub use Rattle.txn_core.specs.declared.ending.Cause.{Cause}

@@ -1,12 +1,12 @@
 -- What a transaction keeps after each response, and what a sweep keeps: it asks somebody, and whom it may.
-use Rattle.law_agents.proofs.Vocabulary.{◌≡◌, ⊎_elim, ℕ, Bool, true, false, cond, List, [], ◌∷◌, Option, Some, None, refl, sym, ap, subst, ◌∙◌, none-some, same_Some, Configuration, Content, Prefix, Request, Reply, is_prepared, Told, Said, newest}
-use Rattle.law_agents.proofs.Vocabulary.{Entry, Cache, put, put_has, ReadPoint, GatheredSuite, Suites, suite_of, with_suite, source_of, first_or, settled, Response, Replied, Lacked, Lost, Granted, Fixed, Task, Proposal, Phase, Gathering, Fetching}
-use Rattle.law_agents.proofs.Vocabulary.{Preparing, Deciding, Finishing, Step, give_up, prepare, locked_at, short_cause, widen_all, keep_content, heard_of, said_to, execute, collected, hear, fetched, prepared, after_response, asked_by, asked_for}
-use Rattle.law_agents.proofs.Vocabulary.{given_in, verdict_in, ending_by, cause_of_abort, lack_cause, request_in, Each, each_with, but_with, asks_same, Widening as Widens}
-use Rattle.suite_collect.specs.Collecting.{Widening, Collector, told_since, counted, votes_or, mode_of, mode_asked, request_for, tell, tell_at, Asked, Poll, Upgrade, Next, Ask, Current, Short, next}
+use Rattle.law_agents.proofs.Vocabulary.{◌≡◌, ⊎_elim, ℕ, List, [], ◌∷◌, Option, Some, None, refl, sym, ap, subst, ◌∙◌, none-some, same_Some, Configuration, Content, Prefix, Request, Reply, Told, Said, arith, Entry, Cache, put, put_has, ReadPoint}
+use Rattle.law_agents.proofs.Vocabulary.{GatheredSuite, Suites, suite_of, with_suite, source_of, first_or, settled, Response, Replied, Lacked, Lost, Granted, Fixed, Task, Proposal, Phase, Gathering, Fetching, Preparing, Deciding, Finishing, Step}
+use Rattle.law_agents.proofs.Vocabulary.{short_cause, widen_all, keep_content, heard_of, said_to, execute, collected, hear, fetched, prepared, after_response, asked_by, asked_for, given_in, lack_cause, request_in, Each, each_with, but_with}
+use Rattle.law_agents.proofs.Vocabulary.{Widening as Widens}
+use Rattle.suite_collect.specs.Collecting.{Collector, counted, mode_of, mode_asked, tell, tell_at, Asked, Next, Ask, Current, Short, next}
 use Rattle.rep_core.specs.declared.reply.Reply.TheVariants as reply
 use Rattle.suite_collect.specs.declared.told.Said.TheVariants as said
-use Rattle.law_agents.proofs.Collectors.{IsPlain, asks_shared, current_gives, AllReps, SaysSo, AllTold, AllIn, newest_so, asked_so, given_so}
+use Rattle.law_agents.proofs.Collectors.{IsPlain, asks_shared, current_gives, AllReps, SaysSo, AllIn, newest_so, asked_so, given_so}
 use Rattle.law_agents.proofs.Walk as walk
 use Rattle.law_agents.proofs.Walk.{Goes, Fine, AllFine, Full, Asking, InPhase, CacheFine, Leaves}
 
@@ -36,48 +36,15 @@ module _ (fixed : Fixed) (V : Configuration → Type 0) (S : ℕ → Type 0) (go
   ResponseSo _ = Unit {0}
 
   said_so : (asked : Request) (reply' : Reply) (heard : Said) → ResponseSo (Replied reply') → said_to asked reply' ≡ Some heard → SaysSo V S heard
-  said_so asked (reply.Held prefix dver) heard so is = subst (SaysSo V S) (same_Some (said.Held prefix dver) heard is) so
-  said_so asked (reply.Busy holder prepared) heard so is = subst (SaysSo V S) (same_Some (said.Busy holder) heard is) tt
-  said_so asked reply.Down heard so is = of (Rattle.txn_core.specs.Transactions.is_poll asked) is
-    where
-      of : (b : Bool) → cond b (Some said.Down) None ≡ Some heard → SaysSo V S heard
-      of true is = subst (SaysSo V S) (same_Some said.Down heard is) tt
-      of false is = absurd (none-some heard is)
-  said_so asked other heard so is = absurd (none-some heard is)
+  said_so asked reply' heard h3 h4 = search arith
 
   -- ---- a suite that was told more
 
   fine_tell : (suite : GatheredSuite) (one : Told) → S one.server → SaysSo V S one.said → Fine' suite → Fine' (record suite { collector = tell one suite.collector })
-  fine_tell suite one server says fine = of suite.collector.widening refl
-    where
-      c : Collector
-      c = suite.collector
-
-      new : Option Widening → GatheredSuite
-      new w = record suite { collector = tell_at w one c }
-
-      of : (w : Option Widening) → c.widening ≡ w → Fine' (new w)
-      of None was = record {
-        start = fine.start;
-        told = (server, says, fine.told);
-        since = fine.since;
-        wide = fine.wide;
-        first = fine.first;
-      }
-      of (Some w) was = record {
-        start = fine.start;
-        told = fine.told;
-        since = (server, says, subst (λ w. AllTold V S (told_since w)) was fine.since);
-        wide = λ after is. subst (λ (w : Widening). Names w.votes) (same_Some (record w { told = one ∷ w.told }) after is) (fine.wide w was);
-        first = fine.first;
-      }
+  fine_tell suite one server says fine = search arith
 
   counted_so : (suite : GatheredSuite) → Fine' suite → Names (counted suite.collector)
-  counted_so suite fine = of suite.collector.widening refl
-    where
-      of : (w : Option Widening) → suite.collector.widening ≡ w → Names (votes_or w (newest suite.collector.start suite.collector.told))
-      of None was = goes.names _ (newest_so V S suite.collector.start suite.collector.told fine.start fine.told)
-      of (Some w) was = fine.wide w was
+  counted_so suite fine = search (newest_so, arith)
 
   -- it was Current
   fine_settled : (suite : GatheredSuite) (prefix : Prefix) (dver : ℕ) (members : List ℕ) → Fine' suite → next suite.collector ≡ Current prefix dver members → Fine' (settled prefix dver members suite)
@@ -96,14 +63,7 @@ module _ (fixed : Fixed) (V : Configuration → Type 0) (S : ℕ → Type 0) (go
           )
 
   full_settled : (suite : GatheredSuite) (prefix : Prefix) (dver : ℕ) (members : List ℕ) → suite.collector.widening ≡ None → IsPlain suite.collector → Full fixed V S goes (settled prefix dver members suite)
-  full_settled suite prefix dver members narrow plain = of suite.first refl
-    where
-      new : ReadPoint
-      new = record { prefix = prefix; dver = dver; source = source_of suite.collector dver members }
-
-      of : (first : Option ReadPoint) → suite.first ≡ first → Full fixed V S goes (settled prefix dver members suite)
-      of (Some first) was = record { first = first; was = ap (λ first. first_or first new) was; narrow = narrow; mode = refl; plain = plain }
-      of None was = record { first = new; was = ap (λ first. first_or first new) was; narrow = narrow; mode = refl; plain = plain }
+  full_settled suite prefix dver members narrow plain = search arith
 
   -- ---- what was asked
 
@@ -113,25 +73,10 @@ module _ (fixed : Fixed) (V : Configuration → Type 0) (S : ℕ → Type 0) (go
     mode : mode_of asked ≡ mode_asked question
 
   questioned : (task : Task) (number : ℕ) (c : Collector) (server : ℕ) (asked : Request) → asked_by task number (next c) ≡ Some (server, asked) → Question c server asked
-  questioned task number c server asked is = of (next c) refl is
-    where
-      mode_for : (question : Asked) → mode_of (request_for task.t number question) ≡ mode_asked question
-      mode_for (Poll mode) = refl
-      mode_for Upgrade = refl
-
-      of : (after : Next) → next c ≡ after → asked_by task number after ≡ Some (server, asked) → Question c server asked
-      of (Ask at question) was is = record {
-        question = question;
-        asks = was ∙ ap (λ at. Ask at question) (ap (λ (pair : ℕ × Request). pair.0) (same_Some (at, request_for task.t number question) (server, asked) is));
-        mode = ap mode_of (sym (asks_same at server (request_for task.t number question) asked is)) ∙ mode_for question;
-      }
-      of other was is = absurd (none-some (server, asked) is)
+  questioned task number c server asked is = search arith
 
   plain_tell : (c : Collector) (server : ℕ) (asked : Request) (heard : Said) → c.widening ≡ None → IsPlain c → Question c server asked → IsPlain (tell (record { server = server; mode = mode_of asked; said = heard }) c)
-  plain_tell c server asked heard narrow plain question =
-      let one : Told = record { server = server; mode = mode_of asked; said = heard } in
-      subst (λ w. IsPlain (tell_at w one c)) (sym narrow)
-      (λ shared. (question.mode ∙ asks_shared c server question.question narrow shared question.asks, plain shared))
+  plain_tell c server asked heard narrow plain question = search (asks_shared, arith)
 
   narrow_tell : (one : Told) (c : Collector) → c.widening ≡ None → (tell one c).widening ≡ None
   narrow_tell one c narrow = ap (λ w. (tell_at w one c).widening) narrow ∙ narrow
@@ -260,11 +205,7 @@ module _ (fixed : Fixed) (V : Configuration → Type 0) (S : ℕ → Type 0) (go
   -- ---- any response
 
   l_prepared : (task : Task) (cache : Cache) (suites : Suites) (outcome : Proposal) (server : ℕ) (left : List ℕ) (said' : Reply) → Cached cache → AllFine' suites → AllIn V S left → Left (prepared task cache suites outcome server left said')
-  l_prepared task cache suites outcome server left said' cached fine all =
-      elim (is_prepared said') as (λ b. Left (cond b (prepare task cache suites outcome left) (give_up task cache suites (Lost server)))) [
-        | true ↦ walk.l_prepare fixed V S goes task cache suites outcome left cached fine all
-        | false ↦ walk.l_give_up fixed V S goes task cache suites (Lost server) cached fine
-      ]
+  l_prepared task cache suites outcome server left said' cached fine all = search (walk.l_prepare, walk.l_give_up, arith)
 
   pub l_response : (task : Task) (cache : Cache) (suites : Suites) (phase : Phase) (server : ℕ) (asked : Request) (response : Response) → Cached cache → Phase' suites phase
       → request_in fixed task suites phase ≡ Some (server, asked) → ResponseSo response
@@ -275,9 +216,7 @@ module _ (fixed : Fixed) (V : Configuration → Type 0) (S : ℕ → Type 0) (go
   l_response task cache suites (Widens (number ∷ left) granted) server asked (Replied said') cached in' is so = l_widened task cache suites number left granted (suite_of suites number) server asked said' refl cached in' is so
   l_response task cache suites (Preparing [] outcome) server asked response cached in' is so = absurd in'
   l_response task cache suites (Preparing (now ∷ left) outcome) server asked (Replied said') cached in' is so = l_prepared task cache suites outcome server left said' cached in'.0 in'.1.1
-  l_response task cache suites (Deciding outcome) server asked (Replied said') cached in' is so =
-      let v = verdict_in said' Rattle.rep_core.specs.declared.reply.Verdict.TheVariants.Aborted in
-      walk.l_end fixed V S goes task cache suites v (ending_by v (cause_of_abort said')) (locked_at suites) cached (walk.all_locking fixed V S goes suites in')
+  l_response task cache suites (Deciding outcome) server asked (Replied said') cached in' is so = search (walk.l_end, walk.all_locking, arith)
   l_response task cache suites (Deciding outcome) server asked (Lacked lacked) cached in' is so = walk.l_give_up fixed V S goes task cache suites (lack_cause server lacked) cached in'
   l_response task cache suites (Finishing [] v ending) server asked response cached in' is so = absurd in'
   l_response task cache suites (Finishing (now ∷ left) v ending) server asked (Replied said') cached in' is so = walk.l_end fixed V S goes task cache suites v ending left cached in'.1
@@ -305,10 +244,4 @@ module _ (fixed : Fixed) (V : Configuration → Type 0) (S : ℕ → Type 0) (go
       (subst (λ first. AsksSo (Rattle.txn_core.specs.Transactions.fetched_at task number first)) (sym own.was) (has.first own.first own.was).1)
 
   pub phase_asks : (task : Task) (suites : Suites) (phase : Phase) → Phase' suites phase → AsksSo (request_in fixed task suites phase)
-  phase_asks task suites (Gathering number) in' = collector_asks task suites number in'.0 in'.2.asking
-  phase_asks task suites (Fetching number) in' = fetch_asks task suites number in'.0 in'.1 in'.2.0 in'.2.1
-  phase_asks task suites (Widens (number ∷ left) granted) in' = collector_asks task suites number in'.0 in'.1
-  phase_asks task suites (Preparing (now ∷ left) outcome) in' = in'.1.0
-  phase_asks task suites (Deciding outcome) in' = goes.home task.t
-  phase_asks task suites (Finishing (now ∷ left) v ending) in' = in'.0
-  phase_asks task suites other in' = in'
+  phase_asks task suites phase h3 = search (collector_asks, fetch_asks, arith)
