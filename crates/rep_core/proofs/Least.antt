@@ -1,5 +1,5 @@
 -- Of rising locks the first that passes a test is that of the least transaction; and a transaction has one lock on a suite at most.
-use Rattle.rep_core.proofs.Vocabulary.{◌≡◌, ℕ, ◌≤◌, Bool, true, false, List, [], ◌∷◌, Option, Some, None, sym, subst, ◌∙◌, arith, find, and_parts, false≢true, nat_tests, same_Some, LockMode, Lock, Request, before, rise, conflicts, in_the_way}
+use Rattle.rep_core.proofs.Vocabulary.{◌≡◌, ℕ, ◌≤◌, Bool, true, List, [], ◌∷◌, Option, Some, None, sym, subst, ◌∙◌, arith, find, and_parts, false≢true, nat_tests, same_Some, LockMode, Lock, Request, before, rise, conflicts, in_the_way}
 use Rattle.rep_core.proofs.Vocabulary.{copy_of, State, locking_reply, reply_up, reply_down, reply_of, stands_against, IsLeastHolder}
 use Rattle.rep_core.specs.declared.reply.Reply.TheVariants as reply
 use Rattle.rep_core.proofs.Members.{Has, has_from, contains_from, all_at}

@@ -1,10 +1,9 @@
 -- Intentions that are kept as what they leave, seen as intentions.
-use Rattle.rep_core.proofs.Vocabulary.{◌≡◌, ℕ, ◌==◌, ◌≤◌, ◌<◌, Bool, false, cond, not, get_or, filter, List, [], ◌∷◌, length, Option, Some, refl, sym, ap, subst, ◌∙◌, ⊎_elim, ◌⊎◌, arith, is_some, option_map, unwrap_or, nat_cmp, is_at, keys_of}
+use Rattle.rep_core.proofs.Vocabulary.{◌≡◌, ℕ, ◌==◌, ◌≤◌, ◌<◌, Bool, false, cond, not, get_or, filter, List, [], ◌∷◌, length, Option, Some, refl, sym, ap, subst, ◌∙◌, ⊎_elim, ◌⊎◌, arith, is_some, option_map, unwrap_or, nat_cmp, is_at}
 use Rattle.rep_core.proofs.Vocabulary.{cases_Bool, lookup_head, lookup_tail, sorted_tail, get_or-map, lookup-map_values, keys_of-map_values, none-some, same_Some, IsOrdered, get, insert, remove, replace, get_insert_here, get_insert_apart}
 use Rattle.rep_core.proofs.Vocabulary.{get_remove_here, get_remove_apart, Configuration, Replica, absent_copy, Planned, Part, Take, Intention, copy_in, left_by, is_keep, with_taken, with_intentions, intention_in, intentions_in, in_form_2, take_in}
 use Rattle.rep_core.proofs.Vocabulary.{is_whole, planned_of, with_all, Leaves, IsStrictlySortedBy}
 use Rattle.rep_core.proofs.Intentions.{apart_behind}
-use Rattle.rep_core.specs.declared.request.Take.TheVariants as take
 
 -- ---- look-ups and edits
 

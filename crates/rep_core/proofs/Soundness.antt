@@ -1,10 +1,9 @@
 -- Each change keeps a store sound.
 use Rattle.rep_core.proofs.Vocabulary.{◌≡◌, ℕ, ◌==◌, Bool, true, false, cond, ◌&&◌, not, List, [], ◌∷◌, Option, Some, refl, sym, ap, ◌∙◌, ◌⊎◌, ⊎_elim, arith, nat_lt, IsTrue, if◌then◌else◌, list_all, list_any, nat_cmp, cases_Bool, and_parts, or_parts}
 use Rattle.rep_core.proofs.Vocabulary.{same_Some, IsOrdered, get, insert, get_insert_here, get_insert_apart, Content, empty_content, PrefixKind, Replica, held_by, is_absent, holds, is_empty, is_within_limits, is_valid_prefix, Opening, Intention}
-use Rattle.rep_core.proofs.Vocabulary.{Part, Take, Store, IsSound, is_sound, is_used_up, copy_of, copy_in, left_by, is_keep, goes_with, holds_last, is_sound_part, with_intention, with_intentions, intended, overfills, opening_store}
+use Rattle.rep_core.proofs.Vocabulary.{Part, Take, Store, IsSound, is_sound, is_used_up, copy_of, left_by, is_keep, goes_with, holds_last, is_sound_part, with_intention, with_intentions, intended, overfills, opening_store}
 use Rattle.rep_core.proofs.Vocabulary.{without_intentions, in_effect, finished}
 use Rattle.std.specs.List.Sorted.{IsStrictlySortedBy}
-use Rattle.rep_core.specs.declared.request.Take.TheVariants as take
 use Rattle.rep_core.proofs.Intentions.{copy_in-with_copies, get-without}
 
 -- ---- what a take leaves

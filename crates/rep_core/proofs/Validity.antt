@@ -11,8 +11,6 @@ use Rattle.acl_core.specs.Modes.{minimal_list}
 use Rattle.acl_core.specs.Tags.{qualifier}
 use Rattle.suite_prefix.proofs.TestsExact.{valid_copy_if_passes}
 use Rattle.std.specs.List.Sorted.{IsStrictlySortedBy}
-use Rattle.rep_core.specs.declared.request.Take.TheVariants as take
-use Rattle.rep_core.specs.declared.request.Request.TheVariants as request
 use Rattle.rep_core.proofs.Reached.{always_consistent}
 use Rattle.rep_core.proofs.Finding.{find_some}
 use Rattle.rep_core.proofs.Members.{Has, contains_from}

@@ -2,7 +2,6 @@
 
 ghost use Rattle.std.specs.Prelude.{◌≡◌, ◌≢◌, ◌↔◌, ◌&&◌, OnOk, IsTrue, Err};
 ghost use Rattle.rep_core.specs.declared.stamped.Lack.TheVariants.{Full, Memory};
-ghost use Rattle.rep_core.specs.code.ServerFields.{state_of};
 ghost use Rattle.rep_core.specs.Service as service;
 ghost use Rattle.rep_core.specs.Service.{prepares};
 ghost use Rattle.rep_core.specs.Serving as serving;
@@ -12,39 +11,17 @@ ghost use Rattle.rep_core.specs.Store as store;
 use crate::evaluate::{fill_down, verdict_of};
 use crate::reply::{Reply, Verdict};
 use crate::request::{Part, Request};
-use crate::server_state::ServerState;
+use crate::server::Server;
 use crate::stamped::{Lack, Stamped};
 use crate::takes::is_used_up;
 use suite_prefix::LockMode;
 
-impl ServerState {
-    /// Writes what would be answered to a request into a place of the caller's.
-    pub(crate) fn answer(
-        &self,
-        request: &Stamped<Request>,
-        reply: &mut Stamped<Reply>,
-    ) -> Result<(), Lack>
-        ensures reply { OnOk result (reply.new ≡ serving.answer_of (state_of self.now) request.now) }
-        ensures full { (result ≡ Err Full) ↔ IsTrue (serving.is_full (state_of self.now) request.now) }
-        ensures bare { IsTrue (serving.is_bare (service.reply_of (state_of self.now) request.now.value)) → result ≢ Err Memory }
-    {
-        if is_used_up(self.stamp) || is_used_up(request.stamp) {
-            return Err(Lack::Full);
-        }
-        reply.stamp = self.stamp.max(request.stamp) + 1;
-        if self.up {
-            self.tell_up(&request.value, &mut reply.value)
-        } else {
-            fill_down(&request.value, &mut reply.value);
-            Ok(())
-        }
-    }
-
-    /// Of a server that is up.
-    fn tell_up(&self, request: &Request, reply: &mut Reply) -> Result<(), Lack>
-        ensures reply { OnOk result (reply.new ≡ service.reply_up (state_of self.now) request.now) }
-        ensures full { (result ≡ Err Full) ↔ IsTrue (serving.asks_too_much (state_of self.now) request.now) }
-        ensures bare { IsTrue (serving.is_bare (service.reply_up (state_of self.now) request.now)) → result ≢ Err Memory }
+impl Server {
+    /// Writes what a server that is up would answer to a request into a place of the caller's.
+    pub(crate) fn tell_up(&self, request: &Request, reply: &mut Reply) -> Result<(), Lack>
+        ensures reply { OnOk result (reply.new ≡ service.reply_up self.now.state request.now) }
+        ensures full { (result ≡ Err Full) ↔ IsTrue (serving.asks_too_much self.now.state request.now) }
+        ensures bare { IsTrue (serving.is_bare (service.reply_up self.now.state request.now)) → result ≢ Err Memory }
     {
         match request {
             Request::Poll { t, suite, mode } => self.tell_lock(*t, *suite, *mode, reply),
@@ -65,9 +42,9 @@ impl ServerState {
     }
 
     fn tell_lock(&self, t: u64, suite: u64, mode: LockMode, reply: &mut Reply) -> Result<(), Lack>
-        ensures reply { OnOk result (reply.new ≡ service.poll_reply (state_of self.now) t suite mode) }
+        ensures reply { OnOk result (reply.new ≡ service.poll_reply self.now.state t suite mode) }
         ensures full { result ≢ Err Full }
-        ensures bare { IsTrue (serving.is_bare (service.poll_reply (state_of self.now) t suite mode)) → result ≢ Err Memory }
+        ensures bare { IsTrue (serving.is_bare (service.poll_reply self.now.state t suite mode)) → result ≢ Err Memory }
     {
         match self.locks.in_the_way(t, suite, mode) {
             Some(other) => {
@@ -85,9 +62,9 @@ impl ServerState {
     }
 
     fn tell_upgrade(&self, t: u64, suite: u64, reply: &mut Reply) -> Result<(), Lack>
-        ensures reply { OnOk result (reply.new ≡ service.upgrade_reply (state_of self.now) t suite) }
+        ensures reply { OnOk result (reply.new ≡ service.upgrade_reply self.now.state t suite) }
         ensures full { result ≢ Err Full }
-        ensures bare { IsTrue (serving.is_bare (service.upgrade_reply (state_of self.now) t suite)) → result ≢ Err Memory }
+        ensures bare { IsTrue (serving.is_bare (service.upgrade_reply self.now.state t suite)) → result ≢ Err Memory }
     {
         if self.locks.has_lock(t, suite) {
             self.tell_lock(t, suite, LockMode::Exclusive, reply)
@@ -98,9 +75,9 @@ impl ServerState {
     }
 
     fn tell_fetch(&self, t: u64, suite: u64, reply: &mut Reply) -> Result<(), Lack>
-        ensures reply { OnOk result (reply.new ≡ service.fetch_reply (state_of self.now) t suite) }
+        ensures reply { OnOk result (reply.new ≡ service.fetch_reply self.now.state t suite) }
         ensures full { result ≢ Err Full }
-        ensures bare { IsTrue (serving.is_bare (service.fetch_reply (state_of self.now) t suite)) → result ≢ Err Memory }
+        ensures bare { IsTrue (serving.is_bare (service.fetch_reply self.now.state t suite)) → result ≢ Err Memory }
     {
         if self.locks.has_lock(t, suite) {
             self.store.give(suite, reply)?;
@@ -111,8 +88,8 @@ impl ServerState {
     }
 
     fn tell_parts(&self, t: u64, parts: &[Part], reply: &mut Reply) -> Result<(), Lack>
-        ensures reply { OnOk result (reply.new ≡ service.prepare_reply (state_of self.now) t parts.now) }
-        ensures full { (result ≡ Err Full) ↔ IsTrue (prepares (state_of self.now) t parts.now && store.overfills t (state_of self.now).store parts.now) }
+        ensures reply { OnOk result (reply.new ≡ service.prepare_reply self.now.state t parts.now) }
+        ensures full { (result ≡ Err Full) ↔ IsTrue (prepares self.now.state t parts.now && store.overfills t self.now.state.store parts.now) }
         ensures memory { result ≢ Err Memory }
     {
         if self.stands_prepared(t, parts) {
@@ -131,7 +108,7 @@ impl ServerState {
     }
 
     fn tell_record(&self, t: u64, verdict: Verdict, reply: &mut Reply) -> Result<(), Lack>
-        ensures reply { OnOk result (reply.new ≡ Reply.Verdict (service.recorded (record_of (state_of self.now) t) verdict)) }
+        ensures reply { OnOk result (reply.new ≡ Reply.Verdict (service.recorded (record_of self.now.state t) verdict)) }
         ensures full { result ≢ Err Full }
     {
         let told = match self.verdicts.get(t) {

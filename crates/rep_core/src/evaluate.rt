@@ -7,17 +7,16 @@ ghost use Rattle.rep_core.specs.declared.stamped.Lack.TheVariants.{Full, Memory}
 ghost use Rattle.rep_core.specs.code.Stepping as stepping;
 ghost use Rattle.rep_core.specs.code.Stepping.{applied};
 ghost use Rattle.rep_core.specs.Fits.{fits};
-ghost use Rattle.rep_core.specs.code.ServerFields.{state_of};
 ghost use Rattle.rep_core.specs.Service as service;
 ghost use Rattle.rep_core.specs.Service.{after_poll, after_upgrade, prepares, after_prepare, after_record};
 ghost use Rattle.rep_core.specs.Serving as serving;
 ghost use Rattle.rep_core.specs.State.{State, record_of};
-ghost use Rattle.rep_core.specs.declared.server_state.ServerState.{ServerState};
+ghost use Rattle.rep_core.specs.Roomed.{Roomed};
 ghost use Rattle.rep_core.specs.Store as store;
 
 use crate::reply::{LockList, Reply, Verdict};
 use crate::request::{Decision, Part, Request};
-use crate::server_state::ServerState;
+use crate::server::Server;
 use crate::stamped::{Lack, Stamped};
 use crate::step::Change;
 use crate::takes::is_used_up;
@@ -25,49 +24,22 @@ use file_ops::{AuditItem, Refusal, Why};
 use std::alloc::AllocError;
 use suite_prefix::LockMode;
 
-impl ServerState {
-    /// What a request changes, once its reply is written into a place of the caller's; with all room that the change
-    /// takes. Nothing of the server has changed.
+impl Server {
+    /// What a request changes at a server that is up, once its reply is written into a place of the caller's; with all room
+    /// that the change takes. Nothing of the server has changed.
     #[inline(always)]
-    pub(crate) fn evaluate<'a>(
+    pub(crate) fn fill_up<'a>(
         &mut self,
-        request: &'a Stamped<Request>,
-        reply: &mut Stamped<Reply>,
+        request: &'a Request,
+        reply: &mut Reply,
     ) -> Result<Change<'a>, Lack>
-        ensures reply { OnOk result (reply.new ≡ serving.answer_of (state_of self.old) request.now) }
-        ensures same { state_of self.new ≡ state_of self.old }
-        ensures room { IfOk result (λ change. stepping.HasRoom change (stepping.roomed_of self.new)) }
-        ensures change { IfOk result (λ change. applied change (state_of self.old) ≡ service.after (state_of self.old) request.now.value) }
-        ensures full { (result ≡ Err Full) ↔ IsTrue (serving.is_full (state_of self.old) request.now) }
+        ensures reply { OnOk result (reply.new ≡ service.reply_up self.old.state request.now) }
+        ensures same { self.new.state ≡ self.old.state }
+        ensures room { IfOk result (λ change. stepping.HasRoom change self.new) }
+        ensures change { IfOk result (λ change. applied change self.old.state ≡ service.after_up self.old.state request.now) }
+        ensures full { (result ≡ Err Full) ↔ IsTrue (serving.asks_too_much self.old.state request.now) }
         ensures place { OnErr result (reply.new ≡ reply.old) }
-        ensures bare { IsTrue (serving.is_bare (service.reply_of (state_of self.old) request.now.value)) → result ≢ Err Memory }
-        ensures fits { IsTrue (fits request.now.value (service.reply_of (state_of self.old) request.now.value)) }
-    {
-        self.store.sound();
-        if is_used_up(self.stamp) || is_used_up(request.stamp) {
-            return Err(Lack::Full);
-        }
-        let stamp = self.stamp.max(request.stamp) + 1;
-        let filled = if self.up {
-            self.fill_up(&request.value, &mut reply.value)
-        } else {
-            Ok(fill_down(&request.value, &mut reply.value))
-        };
-        let change = filled?;
-        reply.stamp = stamp;
-        Ok(change)
-    }
-
-    /// Of a server that is up.
-    #[inline(always)]
-    fn fill_up<'a>(&mut self, request: &'a Request, reply: &mut Reply) -> Result<Change<'a>, Lack>
-        ensures reply { OnOk result (reply.new ≡ service.reply_up (state_of self.old) request.now) }
-        ensures same { state_of self.new ≡ state_of self.old }
-        ensures room { IfOk result (λ change. stepping.HasRoom change (stepping.roomed_of self.new)) }
-        ensures change { IfOk result (λ change. applied change (state_of self.old) ≡ service.after_up (state_of self.old) request.now) }
-        ensures full { (result ≡ Err Full) ↔ IsTrue (serving.asks_too_much (state_of self.old) request.now) }
-        ensures place { OnErr result (reply.new ≡ reply.old) }
-        ensures bare { IsTrue (serving.is_bare (service.reply_up (state_of self.old) request.now)) → result ≢ Err Memory }
+        ensures bare { IsTrue (serving.is_bare (service.reply_up self.old.state request.now)) → result ≢ Err Memory }
     {
         match request {
             Request::Poll { t, suite, mode } => self.fill_lock(*t, *suite, *mode, reply),
@@ -109,13 +81,13 @@ impl ServerState {
         mode: LockMode,
         reply: &mut Reply,
     ) -> Result<Change<'a>, Lack>
-        ensures reply { OnOk result (reply.new ≡ service.poll_reply (state_of self.old) t suite mode) }
-        ensures same { state_of self.new ≡ state_of self.old }
-        ensures change { IfOk result (λ change. applied change (state_of self.old) ≡ after_poll (state_of self.old) t suite mode) }
-        ensures room { IfOk result (λ change. stepping.HasRoom change (stepping.roomed_of self.new)) }
+        ensures reply { OnOk result (reply.new ≡ service.poll_reply self.old.state t suite mode) }
+        ensures same { self.new.state ≡ self.old.state }
+        ensures change { IfOk result (λ change. applied change self.old.state ≡ after_poll self.old.state t suite mode) }
+        ensures room { IfOk result (λ change. stepping.HasRoom change self.new) }
         ensures full { result ≢ Err Full }
         ensures place { OnErr result (reply.new ≡ reply.old) }
-        ensures bare { IsTrue (serving.is_bare (service.poll_reply (state_of self.old) t suite mode)) → result ≢ Err Memory }
+        ensures bare { IsTrue (serving.is_bare (service.poll_reply self.old.state t suite mode)) → result ≢ Err Memory }
     {
         match self.locks.in_the_way(t, suite, mode) {
             Some(other) => {
@@ -141,13 +113,13 @@ impl ServerState {
         suite: u64,
         reply: &mut Reply,
     ) -> Result<Change<'a>, Lack>
-        ensures reply { OnOk result (reply.new ≡ service.upgrade_reply (state_of self.old) t suite) }
-        ensures same { state_of self.new ≡ state_of self.old }
-        ensures change { IfOk result (λ change. applied change (state_of self.old) ≡ after_upgrade (state_of self.old) t suite) }
-        ensures room { IfOk result (λ change. stepping.HasRoom change (stepping.roomed_of self.new)) }
+        ensures reply { OnOk result (reply.new ≡ service.upgrade_reply self.old.state t suite) }
+        ensures same { self.new.state ≡ self.old.state }
+        ensures change { IfOk result (λ change. applied change self.old.state ≡ after_upgrade self.old.state t suite) }
+        ensures room { IfOk result (λ change. stepping.HasRoom change self.new) }
         ensures full { result ≢ Err Full }
         ensures place { OnErr result (reply.new ≡ reply.old) }
-        ensures bare { IsTrue (serving.is_bare (service.upgrade_reply (state_of self.old) t suite)) → result ≢ Err Memory }
+        ensures bare { IsTrue (serving.is_bare (service.upgrade_reply self.old.state t suite)) → result ≢ Err Memory }
     {
         if self.locks.has_lock(t, suite) {
             self.fill_lock(t, suite, LockMode::Exclusive, reply)
@@ -159,12 +131,12 @@ impl ServerState {
 
     /// To tell a content.
     fn fill_fetch<'a>(&mut self, t: u64, suite: u64, reply: &mut Reply) -> Result<Change<'a>, Lack>
-        ensures reply { OnOk result (reply.new ≡ service.fetch_reply (state_of self.old) t suite) }
-        ensures same { state_of self.new ≡ state_of self.old }
+        ensures reply { OnOk result (reply.new ≡ service.fetch_reply self.old.state t suite) }
+        ensures same { self.new.state ≡ self.old.state }
         ensures change { IfOk result (λ change. change ≡ Change.Nothing) }
         ensures full { result ≢ Err Full }
         ensures place { OnErr result (reply.new ≡ reply.old) }
-        ensures bare { IsTrue (serving.is_bare (service.fetch_reply (state_of self.old) t suite)) → result ≢ Err Memory }
+        ensures bare { IsTrue (serving.is_bare (service.fetch_reply self.old.state t suite)) → result ≢ Err Memory }
     {
         if self.locks.has_lock(t, suite) {
             self.store.keep_content(suite)?;
@@ -182,13 +154,13 @@ impl ServerState {
         parts: &'a [Part],
         reply: &mut Reply,
     ) -> Result<Change<'a>, Lack>
-        ensures reply { OnOk result (reply.new ≡ service.prepare_reply (state_of self.old) t parts.now) }
-        ensures same { state_of self.new ≡ state_of self.old }
-        ensures change { IfOk result (λ made. applied made (state_of self.old) ≡ after_prepare (state_of self.old) t parts.now) }
-        ensures room { IfOk result (λ change. stepping.HasRoom change (stepping.roomed_of self.new)) }
-        ensures full { let old = state_of self.old in (result ≡ Err Full) ↔ IsTrue (prepares old t parts.now && store.overfills t old.store parts.now) }
+        ensures reply { OnOk result (reply.new ≡ service.prepare_reply self.old.state t parts.now) }
+        ensures same { self.new.state ≡ self.old.state }
+        ensures change { IfOk result (λ made. applied made self.old.state ≡ after_prepare self.old.state t parts.now) }
+        ensures room { IfOk result (λ change. stepping.HasRoom change self.new) }
+        ensures full { let old = self.old.state in (result ≡ Err Full) ↔ IsTrue (prepares old t parts.now && store.overfills t old.store parts.now) }
         ensures place { OnErr result (reply.new ≡ reply.old) }
-        ensures bare { IsTrue (serving.is_bare (service.prepare_reply (state_of self.old) t parts.now)) → result ≢ Err Memory }
+        ensures bare { IsTrue (serving.is_bare (service.prepare_reply self.old.state t parts.now)) → result ≢ Err Memory }
     {
         if self.stands_prepared(t, parts) {
             *reply = Reply::Prepared;
@@ -213,10 +185,10 @@ impl ServerState {
         verdict: Verdict,
         reply: &mut Reply,
     ) -> Result<Change<'a>, Lack>
-        ensures reply { OnOk result (reply.new ≡ Reply.Verdict (service.recorded (record_of (state_of self.old) t) verdict)) }
-        ensures same { state_of self.new ≡ state_of self.old }
-        ensures change { let old = state_of self.old in IfOk result (λ change. applied change old ≡ after_record (record_of old t) t verdict None old) }
-        ensures room { IfOk result (λ change. stepping.HasRoom change (stepping.roomed_of self.new)) }
+        ensures reply { OnOk result (reply.new ≡ Reply.Verdict (service.recorded (record_of self.old.state t) verdict)) }
+        ensures same { self.new.state ≡ self.old.state }
+        ensures change { let old = self.old.state in IfOk result (λ change. applied change old ≡ after_record (record_of old t) t verdict None old) }
+        ensures room { IfOk result (λ change. stepping.HasRoom change self.new) }
         ensures full { result ≢ Err Full }
         ensures place { OnErr result (reply.new ≡ reply.old) }
     {
@@ -232,11 +204,11 @@ impl ServerState {
 
     /// To record a denial, unless a record stands.
     fn fill_denial<'a>(&mut self, item: AuditItem, reply: &mut Reply) -> Result<Change<'a>, Lack>
-        ensures reply { OnOk result (reply.new ≡ Reply.Verdict (service.recorded (record_of (state_of self.old) item.t) (service.denied item))) }
-        ensures same { state_of self.new ≡ state_of self.old }
-        ensures change { let old = state_of self.old in
+        ensures reply { OnOk result (reply.new ≡ Reply.Verdict (service.recorded (record_of self.old.state item.t) (service.denied item))) }
+        ensures same { self.new.state ≡ self.old.state }
+        ensures change { let old = self.old.state in
             IfOk result (λ change. applied change old ≡ after_record (record_of old item.t) item.t (service.denied item) (Some item) old) }
-        ensures room { IfOk result (λ change. stepping.HasRoom change (stepping.roomed_of self.new)) }
+        ensures room { IfOk result (λ change. stepping.HasRoom change self.new) }
         ensures full { result ≢ Err Full }
         ensures place { OnErr result (reply.new ≡ reply.old) }
     {
@@ -252,7 +224,7 @@ impl ServerState {
 
     /// To tell the locks.
     pub(crate) fn fill_list<'a>(&self, reply: &mut Reply) -> Result<Change<'a>, Lack>
-        ensures reply { OnOk result (reply.new ≡ Reply.Locked (state_of self.now).locks) }
+        ensures reply { OnOk result (reply.new ≡ Reply.Locked self.now.state.locks) }
         ensures change { IfOk result (λ change. change ≡ Change.Nothing) }
         ensures full { result ≢ Err Full }
         ensures place { OnErr result (reply.new ≡ reply.old) }
@@ -264,19 +236,19 @@ impl ServerState {
 
     /// Whether nothing is left to be prepared.
     pub(crate) fn stands_prepared(&self, t: u64, parts: &[Part]) -> bool
-        ensures { result ≡ service.stands_prepared (state_of self.now) t parts.now }
+        ensures { result ≡ service.stands_prepared self.now.state t parts.now }
     {
         self.locks.has_prepared(t) || parts.is_empty()
     }
 
     pub(crate) fn can_prepare(&self, t: u64, parts: &[Part]) -> bool
-        ensures { result ≡ service.can_prepare (state_of self.now) t parts.now }
+        ensures { result ≡ service.can_prepare self.now.state t parts.now }
     {
         self.locks.has_locks_for(t, parts) && !lists_twice(parts) && self.are_sound(parts)
     }
 
     fn are_sound(&self, parts: &[Part]) -> bool
-        ensures { result ≡ list_all (store.is_sound_part (state_of self.now).store) parts.now }
+        ensures { result ≡ list_all (store.is_sound_part self.now.state.store) parts.now }
     {
         parts.iter().all(|part| self.store.is_sound_part(part))
     }
@@ -287,7 +259,7 @@ impl ServerState {
 pub(crate) fn fill_down<'a>(request: &Request, reply: &mut Reply) -> Change<'a>
     ensures reply { reply.new ≡ service.reply_down request.now }
     ensures change { (st : State) → stepping.applied result st ≡ service.after_down st request.now }
-    ensures room { (held : ServerState) → stepping.HasRoom result (stepping.roomed_of held) }
+    ensures room { (server : Roomed) → stepping.HasRoom result server }
 {
     match request {
         Request::Return => {

@@ -41,7 +41,7 @@
 //!
 //! **Files**: `lock`, `request`, `reply`, `stamped`, `takes`, `fitting`, `intention`, `store`, `opening_copies`,
 //! `maps`, `copying`, `holders`, `few_locks`, `many_locks`, `locks`, `packed_names`, `kept_verdict`, `verdicts`,
-//! `sameness`, `step`, `server_state`, `evaluate`, `answering`, `server`, `effect`, `types_fit`, `laws`.
+//! `sameness`, `step`, `evaluate`, `answering`, `server`, `effect`, `types_fit`, `laws`.
 //!
 //! **Definitions** (`specs/`): `Locks`, `Intentions`, `Store`, `State`, `Service`, `Serving`, `Fits`, `Roomed`,
 //! `Evaluated`, `Wanting`, `Bare`; of the laws `Consistency`, `Steps`, `ValidCopies`, `Again`, `Laws`.
@@ -67,7 +67,6 @@ mod reply;
 mod request;
 mod sameness;
 mod server;
-mod server_state;
 mod stamped;
 mod step;
 mod store;

@@ -13,12 +13,18 @@ ghost use Rattle.rep_core.specs.Bare.{bare_server};
 ghost use Rattle.rep_core.specs.Serving as serving;
 ghost use Rattle.rep_core.specs.Store as store;
 
+use crate::evaluate::{denied, fill_down};
+use crate::kept_verdict::KeptVerdict;
 use crate::lock::Lock;
+use crate::locks::LockTable;
 use crate::reply::Reply;
 use crate::request::Request;
-use crate::server_state::ServerState;
+use crate::sameness::same_audit;
 use crate::stamped::{Lack, Stamped};
-use crate::step::Step;
+use crate::step::{Change, Step};
+use crate::store::Store;
+use crate::takes::is_used_up;
+use crate::verdicts::Verdicts;
 use file_ops::AuditItem;
 use std::alloc::{AllocError, Global};
 use std::marker::Model;
@@ -27,7 +33,13 @@ use suite_prefix::{Form, Settings, StoredCopy};
 /// A server: copies, locks, intentions, verdicts, the denials that it recorded, and its stamp.
 #[derive(Drop)]
 pub struct Server {
-    held: ServerState,
+    pub(crate) alloc: Global,
+    pub(crate) store: Store,
+    pub(crate) locks: LockTable,
+    pub(crate) verdicts: Verdicts,
+    pub(crate) audit: Vec<AuditItem>,
+    pub(crate) stamp: u64,
+    pub(crate) up: bool,
 }
 
 impl Model for Server {
@@ -36,7 +48,7 @@ impl Model for Server {
 
     ghost Value = { Roomed };
 
-    ghost view = { λ fields. roomed_of fields.held };
+    ghost view = { roomed_of };
 }
 
 impl Server {
@@ -46,8 +58,16 @@ impl Server {
     pub fn opening(alloc: Global, index: u8, settings: &Settings) -> Result<Server, AllocError>
         ensures { IfOk result (λ server. server.state ≡ opening index settings.now) }
     {
-        let held = ServerState::opening(alloc, index, settings)?;
-        Ok(Server { held })
+        let store = Store::opening(alloc, index, settings)?;
+        Ok(Server {
+            alloc,
+            store,
+            locks: LockTable::new(alloc),
+            verdicts: Verdicts::new(alloc),
+            audit: Vec::new(alloc),
+            stamp: 0,
+            up: true,
+        })
     }
 
     /// What it would answer to a request and do, with all that doing it takes: nothing has changed. Finish, Break,
@@ -67,11 +87,18 @@ impl Server {
         ensures bare { IsTrue (serving.is_bare (serving.answer_of self.old.state request.now).value) → result ≢ Err Memory }
         ensures fits { IsTrue (fits request.now.value (serving.answer_of self.old.state request.now).value) }
     {
-        let change = self.held.evaluate(request, reply)?;
-        Ok(Step {
-            stamp: reply.stamp,
-            change,
-        })
+        self.store.sound();
+        if is_used_up(self.stamp) || is_used_up(request.stamp) {
+            return Err(Lack::Full);
+        }
+        let stamp = self.stamp.max(request.stamp) + 1;
+        let change = if self.up {
+            self.fill_up(&request.value, &mut reply.value)?
+        } else {
+            fill_down(&request.value, &mut reply.value)
+        };
+        reply.stamp = stamp;
+        Ok(Step { stamp, change })
     }
 
     /// Does what was evaluated since anything was done last. It takes no memory.
@@ -80,7 +107,31 @@ impl Server {
         requires { IsReadyFor self.old step }
         ensures { self.new.state ≡ after_step step.entry self.old.state }
     {
-        self.held.apply(step);
+        self.stamp = step.stamp;
+        match step.change {
+            Change::Nothing => {}
+            Change::Lock { t, suite, mode } => self.locks.set(t, suite, mode),
+            Change::Keep { t, parts, planned } => {
+                self.locks.prepare(t, parts);
+                self.store.intend(t, parts, planned);
+            }
+            Change::Record { t, verdict } => self.verdicts.insert_in_room(t, verdict),
+            Change::Deny(item) => {
+                self.verdicts
+                    .insert_in_room(item.t, KeptVerdict::whole(denied(&item)));
+                self.audit.push_reserved(item);
+            }
+            Change::Finish { t, answered } => {
+                self.store.finish(t, answered);
+                self.locks.release(t);
+            }
+            Change::Unlock { t, suite } => self.locks.break_lock(t, suite),
+            Change::Crash => {
+                self.locks.keep_prepared();
+                self.up = false;
+            }
+            Change::Return => self.up = true,
+        }
     }
 
     /// Serves a request. Where it is not served, nothing has changed.
@@ -108,11 +159,18 @@ impl Server {
         ensures full { (result ≡ Err Full) ↔ IsTrue (serving.is_full self.now.state request.now) }
         ensures bare { IsTrue (serving.is_bare (serving.answer_of self.now.state request.now).value) → result ≢ Err Memory }
     {
+        if is_used_up(self.stamp) || is_used_up(request.stamp) {
+            return Err(Lack::Full);
+        }
         let mut reply = Stamped {
-            stamp: 0,
+            stamp: self.stamp.max(request.stamp) + 1,
             value: Reply::Down,
         };
-        self.held.answer(request, &mut reply)?;
+        if self.up {
+            self.tell_up(&request.value, &mut reply.value)?;
+        } else {
+            fill_down(&request.value, &mut reply.value);
+        }
         Ok(reply)
     }
 
@@ -120,43 +178,66 @@ impl Server {
     pub fn locks(&self) -> Result<Vec<Lock>, AllocError>
         ensures { IfOk result (λ locks. locks.items ≡ self.now.state.locks) }
     {
-        self.held.locks.listed(self.held.alloc)
+        self.locks.listed(self.alloc)
     }
 
     /// The copies, by suite.
     pub fn copies(&self) -> &[(u64, StoredCopy)]
         ensures { copies_in result.now ≡ self.now.state.store.copies }
     {
-        self.held.store.copies()
+        self.store.copies()
     }
 
     /// Lends the copy of a suite that has one.
     pub fn copy_of(&self, suite: u64) -> Option<&StoredCopy>
         ensures { option_map (λ kept. kept.copy) (option_copied result) ≡ get nat_cmp self.now.state.store.copies suite }
     {
-        self.held.store.stored(suite)
+        self.store.stored(suite)
     }
 
     /// Whether it is up.
     pub fn is_up(&self) -> bool
         ensures { result ≡ self.now.state.up }
     {
-        self.held.up
+        self.up
     }
 
     /// An equal server.
     pub fn copy(&self) -> Result<Server, AllocError>
         ensures { IfOk result (λ server. server.state ≡ self.now.state) }
     {
-        let held = self.held.copy()?;
-        Ok(Server { held })
+        let store = self.store.copy()?;
+        let locks = self.locks.copy(self.alloc)?;
+        let verdicts = self.verdicts.copy(self.alloc)?;
+        let audit = Vec::from_slice(self.alloc, &self.audit)?;
+        Ok(Server {
+            alloc: self.alloc,
+            store,
+            locks,
+            verdicts,
+            audit,
+            stamp: self.stamp,
+            up: self.up,
+        })
     }
 
     /// Whether another server has the same, but for the stamp. Where it is told, it is so. It takes no memory.
     pub fn same_but_stamp(&self, other: &Server) -> bool
         ensures { IsTrue result → bare_server self.now.state ≡ bare_server other.now.state }
     {
-        self.held.same_but_stamp(&other.held)
+        if self.up != other.up {
+            return false;
+        }
+        if !self.locks.same(&other.locks) {
+            return false;
+        }
+        if !same_audit(&self.audit, &other.audit) {
+            return false;
+        }
+        if !self.store.same(&other.store) {
+            return false;
+        }
+        self.verdicts.same(&other.verdicts)
     }
 
     /// A law: each copy is a valid one with versions that are not used up, and so is what each
@@ -164,7 +245,7 @@ impl Server {
     pub fn copies_are_sound(&self)
         ensures { store.IsSound self.now.state.store }
     {
-        self.held.store.sound();
+        self.store.sound();
     }
 
     /// Lends the bytes of the copy of a suite that has one, in the form that they stand in. It takes no
@@ -176,7 +257,7 @@ impl Server {
         ensures held { IfSome result (λ bytes. store.IsHeldInForm self.now.state.store suite) }
         ensures valid { IfSome result (λ bytes. IsCopy (store.copy_of self.now.state.store suite)) }
     {
-        self.held.store.record(suite)
+        self.store.record(suite)
     }
 
     /// The form that the copy of a suite is written in, where it has one. It stays until a Finish that
@@ -184,7 +265,7 @@ impl Server {
     pub fn form(&self, suite: u64) -> Option<Form>
         ensures { result ≡ store.form_of self.now.state.store suite }
     {
-        self.held.store.form(suite)
+        self.store.form(suite)
     }
 
     /// Lends what a prepared transaction leaves of a suite once it is decided with an answer, with the number of that
@@ -192,14 +273,14 @@ impl Server {
     pub fn prepared(&self, suite: u64) -> Option<(u64, &StoredCopy)>
         ensures { option_map (λ prepared. (prepared.0, prepared.1.now.copy)) result ≡ store.prepared_of self.now.state.store suite }
     {
-        self.held.store.prepared(suite)
+        self.store.prepared(suite)
     }
 
     /// Whether it recorded, as the home of a transaction, that this one was answered.
     pub fn was_answered(&self, transaction: u64) -> bool
         ensures { result ≡ was_answered (record_of self.now.state transaction) }
     {
-        match self.held.verdicts.get(transaction) {
+        match self.verdicts.get(transaction) {
             Some(verdict) => verdict.is_answered(),
             None => false,
         }
@@ -209,6 +290,6 @@ impl Server {
     pub fn audit(&self) -> &[AuditItem]
         ensures { result.now ≡ self.now.state.audit }
     {
-        &self.held.audit
+        &self.audit
     }
 }

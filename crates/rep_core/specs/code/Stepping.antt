@@ -4,7 +4,7 @@ use Rattle.std.specs.List.{list_all}
 use Rattle.std.specs.Ordering.{nat_cmp}
 use Rattle.std.specs.Vec.{vec_len, vec_capacity}
 use Rattle.sorted_map.specs.SortedMap.{insert}
-use Rattle.rep_core.specs.declared.server_state.ServerState.{ServerState}
+use Rattle.rep_core.specs.declared.server.Server.TheInside.{Inside}
 use Rattle.rep_core.specs.declared.step.Change.{Change}
 use Rattle.rep_core.specs.declared.step.Change.TheVariants as change
 use Rattle.rep_core.specs.Locks.{in_the_way, locked, with_prepared, released, broken}
@@ -17,13 +17,13 @@ use Rattle.rep_core.specs.code.Planning.{planned_of}
 use Rattle.rep_core.specs.code.ServerFields.{state_of}
 
 -- a server with its room
-abbrev pub roomed_of : ServerState → Roomed
-roomed_of held = record {
-  state = state_of held;
-  locks = held.locks.room;
-  verdicts = held.verdicts.rooms;
-  audit = vec_capacity held.audit - vec_len held.audit;
-  intentions = held.store.room;
+abbrev pub roomed_of : Inside → Roomed
+roomed_of fields = record {
+  state = state_of fields;
+  locks = fields.locks.room;
+  verdicts = fields.verdicts.rooms;
+  audit = vec_capacity fields.audit - vec_len fields.audit;
+  intentions = fields.store.room;
 }
 
 -- what a change makes of a server, but for its stamp
