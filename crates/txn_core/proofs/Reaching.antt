@@ -3,7 +3,7 @@ use Rattle.txn_core.proofs.Vocabulary.{◌≡◌, ℕ, Bool, true, false, cond, 
 use Rattle.txn_core.proofs.Vocabulary.{Reply, Verdict, Request, is_prepared, Limited, Cache, Service, MoreKnown, Knowledge, opened_suite, Reached, IsReached, unbegun, takes, Cause, Ending, Lost, Undecided, Replied, Plan, Fetched, NextPhase, Fixed}
 use Rattle.txn_core.proofs.Vocabulary.{Task, Granted, Proposal, Phase, Gathering, Fetching, Widening, Preparing, Deciding, Finishing, TransactionRun, After, GoesOn, Ends, ReadPoint, GatheredSuite, Suites, suite_of, with_suite, known_row, known_of}
 use Rattle.txn_core.proofs.Vocabulary.{Gathered, Step, decided, verdict_in, ending_by, cause_of_abort, tell_end, give_up, locked_at, prepare, to_widen, widened, widen_by, widen_one, widen_all, heard_of, after_reply, is_idle, Reaches, doing_of, heard}
-use Rattle.txn_core.proofs.Vocabulary.{FallsShort, GoesBy, changed_at, settled_with, with_content, learned_suites, adds, goes_on, Learned, PendingQuorum, IsReachedIn, IsReachedOn, IsReachedAt, IsReachedBy, IsReachedIf, IsReachedUnless, kept_after}
+use Rattle.txn_core.proofs.Vocabulary.{FallsShort, GoesBy, changed_at, settled_with, with_content, learned_suites, adds, goes_on, Learned, PendingQuorum, IsReachedIn, IsReachedOn, IsReachedAt, IsReachedBy, IsReachedIf, IsReachedUnless}
 use Rattle.txn_core.proofs.Vocabulary.{gather_again, follow, taken, takes_in, new_for, with_asked, opened_all, carried_out, shelved, IsPlanOf, Outcome as Executed, Flow as Going}
 use Rattle.file_exec.proofs.Reaching.{unbegun_is_reached, reached_stays, taking_tells_more}
 use Rattle.txn_core.specs.declared.next_phase.NextPhase.TheVariants.{Gather, Fetch, Grant, Refuse}
@@ -34,10 +34,6 @@ reached_at phase h1 h2 = search arith
 
 pub unbegun_by : (service : Service) (txn_run : TransactionRun) (reached : Reached) → reached ≡ unbegun → IsReachedBy service txn_run reached
 unbegun_by service txn_run reached is = reached_at txn_run.phase (IsReachedIn service txn_run.task txn_run.suites reached) (unbegun_in service txn_run.task txn_run.suites reached is)
-
--- whether it goes on or not, with what is kept
-pub reached_after : (service : Service) (txn_run : TransactionRun) (flow : Going) (reached : Reached) → IsReachedUnless flow service txn_run reached → IsReachedBy service txn_run (kept_after flow reached)
-reached_after service txn_run flow reached h4 = search arith
 
 -- ---- by the steps of a transaction's run
 

@@ -101,7 +101,7 @@ pub use Rattle.txn_core.specs.code.Learning.{Fits, IsKeepable, adds, content_kep
 pub use Rattle.txn_core.specs.code.NextPhases.{follow, gather_again, next_phase_of}
 pub use Rattle.txn_core.specs.code.Planning.{answer_of}
 pub use Rattle.txn_core.specs.code.Plans.{IsPlanOf, IsPlayed, carried_out, entries_on, fixed_in, free_of, kept_of, new_for, opened_all, opened_at, opened_by, opened_first, raised_at, seen_on, shelved, takes_in, to_open, with_asked}
-pub use Rattle.txn_core.specs.code.Reaching.{IsReachedAt, IsReachedBy, IsReachedIf, IsReachedIn, IsReachedOn, IsReachedUnless, kept_after}
+pub use Rattle.txn_core.specs.code.Reaching.{IsReachedAt, IsReachedBy, IsReachedIf, IsReachedIn, IsReachedOn, IsReachedUnless}
 pub use Rattle.txn_core.specs.code.Seeing.{Viewed, changed_at, first_at, known_by, learned_suites, seen_in, settled_with, with_content}
 pub use Rattle.txn_core.specs.code.Sorting.{above, in_order}
 pub use Rattle.txn_core.specs.code.Steps.{Steps, WidensTo, taken}

@@ -11,9 +11,7 @@ ghost use Rattle.txn_core.specs.Standing.{FitsAsked, response_of};
 ghost use Rattle.txn_core.specs.Stages.{gathered_in, stage_of};
 ghost use Rattle.txn_core.specs.Wanting as wanting;
 ghost use Rattle.txn_core.specs.code.Asking.{Asks, Wants, fixed_on};
-ghost use Rattle.txn_core.specs.code.Goings.{ending_of};
-ghost use Rattle.txn_core.specs.code.Telling.{Tells, carrying_out};
-ghost use Rattle.txn_core.specs.declared.response.Response.TheVariants.{Replied, Lacked};
+ghost use Rattle.txn_core.specs.code.Telling.{carrying_out};
 
 use crate::ending::{Ending, Flow};
 use crate::fixed_parts::FixedParts;
@@ -221,45 +219,25 @@ impl Agent {
         ensures err { OnErr result ((self.new ≡ self.old) × (ended.new ≡ ended.old)) }
         ensures memory { IfErr result (λ _. IsTrue (wanting.by_taking (agents.next_of self.old.fixed self.old.state) (response_of came.entry))) }
     {
-        let flow = match came {
-            Ok(said) => self.on_reply(said),
-            Err(lack) => Ok(self.on_lack(lack)),
+        let flow = match &mut self.doing {
+            Some(Doing::Running(txn_run)) => match came {
+                Ok(said) => txn_run.on_reply(&mut self.resources, said)?,
+                Err(lack) => txn_run.on_lack(&mut self.resources, lack),
+            },
+            Some(Doing::RunningSweep(sweep_run)) => match came {
+                Ok(said) => {
+                    sweep_run.on_reply(self.resources.alloc, &self.resources.fixed_parts, said)?
+                }
+                Err(lack) => sweep_run.on_lack(&self.resources.fixed_parts, lack),
+            },
+            None => Flow::On,
         };
-        if let Flow::Ended(ending) = flow? {
-            self.doing = None;
+        if let Flow::Ended(ending) = flow {
             *ended = Some(ending);
+            self.doing = None;
+            self.resources.begin_anew();
         }
         Ok(())
-    }
-
-    /// The server that it asks next replied.
-    fn on_reply(&mut self, said: &Reply) -> Result<Flow, AllocError>
-        requires fits { FitsAsked (agents.next_of self.old.fixed self.old.state) (Replied said.now) }
-        ensures ok { IfOk result (λ flow. Tells self.old (Replied said.now) (ending_of flow) self.new) }
-        ensures err { OnErr result (self.new ≡ self.old) }
-        ensures memory { IfErr result (λ _. IsTrue (wanting.by_taking (agents.next_of self.old.fixed self.old.state) (Replied said.now))) }
-    {
-        match &mut self.doing {
-            Some(Doing::Running(txn_run)) => txn_run.on_reply(&mut self.resources, said),
-            Some(Doing::RunningSweep(sweep_run)) => {
-                sweep_run.on_reply(self.resources.alloc, &self.resources.fixed_parts, said)
-            }
-            None => Ok(Flow::On),
-        }
-    }
-
-    /// What it asks next was not served.
-    fn on_lack(&mut self, lack: Lack) -> Flow
-        ensures { Tells self.old (Lacked lack) (ending_of result) self.new }
-    {
-        match &mut self.doing {
-            Some(Doing::Running(txn_run)) => txn_run.on_lack(&mut self.resources, lack),
-            Some(Doing::RunningSweep(sweep_run)) => sweep_run.on_lack(
-                &self.resources.fixed_parts,
-                lack,
-            ),
-            None => Flow::On,
-        }
     }
 
     /// Lets go what it keeps for a site.

@@ -2,9 +2,7 @@
 
 ghost use Rattle.std.specs.Prelude.{◌≡◌, IfOk};
 ghost use Rattle.file_exec.specs.Reaching.{unbegun};
-ghost use Rattle.txn_core.specs.code.Reaching.{kept_after};
 
-use crate::ending::Flow;
 use crate::fixed_parts::FixedParts;
 use file_exec::Progress;
 use std::alloc::{AllocError, Global};
@@ -43,15 +41,5 @@ impl Resources {
         ensures { self.new ≡ record self.old { progress = unbegun } }
     {
         self.progress = Progress::new(self.alloc);
-    }
-
-    /// What was reached is let go with a transaction that is at its end.
-    pub(crate) fn let_go_after(&mut self, flow: &Flow)
-        ensures { self.new ≡ record self.old { progress = kept_after flow.now self.old.progress } }
-    {
-        match flow {
-            Flow::On => {}
-            Flow::Ended(_) => self.begin_anew(),
-        }
     }
 }

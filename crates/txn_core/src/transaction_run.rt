@@ -121,28 +121,8 @@ impl TransactionRun {
         self.suites.as_slice()
     }
 
-    /// The server that is asked next replied. An error leaves all as it was. What was reached is kept as long
-    /// as the transaction goes on.
+    /// The server that is asked next replied: what comes of it in its phase. An error leaves all as it was.
     pub(crate) fn on_reply(
-        &mut self,
-        resources: &mut Resources,
-        said: &Reply,
-    ) -> Result<Flow, AllocError>
-        requires ready { IsReady resources.old self.old }
-        requires fits { FitsAsked (txn_run.request_of (fixed_by resources.old) self.old) (Replied said.now) }
-        ensures ok { IfOk result (λ flow. GoesBy (replied resources.old self.old said.now) flow self.new resources.new.cache.entries) }
-        ensures err { OnErr result (IsUntouched resources.old self.old self.new resources.new) }
-        ensures keeps { Keeps resources.old resources.new }
-        ensures reached { IsReachedBy resources.new.fixed_parts self.new resources.new.progress }
-        ensures memory { IfErr result (λ _. IsTrue (wanting.by_taking (txn_run.request_of (fixed_by resources.old) self.old) (Replied said.now))) }
-    {
-        let flow = self.on_reply_by_phase(resources, said)?;
-        resources.let_go_after(&flow);
-        Ok(flow)
-    }
-
-    /// What comes of a reply in its phase.
-    fn on_reply_by_phase(
         &mut self,
         resources: &mut Resources,
         said: &Reply,

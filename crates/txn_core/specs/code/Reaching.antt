@@ -2,7 +2,7 @@
 use Rattle.std.specs.Prelude.{Option, Some, None}
 use Rattle.file_ops.specs.declared.service.Service.{Service}
 use Rattle.file_exec.specs.Known.{Knowledge}
-use Rattle.file_exec.specs.Reaching.{Reached, IsReached, unbegun}
+use Rattle.file_exec.specs.Reaching.{Reached, IsReached}
 use Rattle.txn_core.specs.declared.ending.Flow.{Flow}
 use Rattle.txn_core.specs.declared.ending.Flow.TheVariants.{On, Ended}
 use Rattle.txn_core.specs.Doing.{Task, Phase, Gathering, Fetching, Widening, Preparing, Deciding, Finishing, TransactionRun}
@@ -31,11 +31,6 @@ IsReachedBy service txn_run reached = IsReachedAt txn_run.phase (IsReachedIn ser
 abbrev pub IsReachedUnless : Flow → Service → TransactionRun → Reached → Type 0
 IsReachedUnless (Ended ending) service txn_run reached = Unit {0}
 IsReachedUnless On service txn_run reached = IsReachedBy service txn_run reached
-
--- what was reached is let go with a transaction that is at its end
-abbrev pub kept_after : Flow → Reached → Reached
-kept_after (Ended ending) reached = unbegun
-kept_after On reached = reached
 
 -- and where one goes on at all
 abbrev pub IsReachedIf : Option TransactionRun → Service → Reached → Type 0
