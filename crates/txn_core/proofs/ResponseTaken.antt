@@ -47,7 +47,7 @@ module _ (was : Inside) (stands : IsStanding was) (response : Response) (ending 
       → Keeps was.resources resources → Came (standing_of was) response ending (record { index = was.index; count = was.count; resources = resources; doing = Some (coded.Running after) })
   on_run before after resources is steps keeps =
       let took : Took (standing_of was).fixed (standing_of was).state response ending resources.cache.entries (Some (Running after)) =
-          took_response (standing_of was).fixed (standing_of was).state response ending after resources.cache.entries before (ap (option_map doing_of) is) steps in
+      took_response (standing_of was).fixed (standing_of was).state response ending after resources.cache.entries before (ap (option_map doing_of) is) steps in
       search (took, arith)
 
   on_sweep : (before after : SweepRun) → was.doing ≡ Some (coded.RunningSweep before)

@@ -102,7 +102,10 @@ impl Agent {
     {
         let resources = self.resources.copy()?;
         let doing = match &self.doing {
-            Some(doing) => Some(doing.copy(self.resources.alloc)?),
+            Some(Doing::Running(txn_run)) => {
+                Some(Doing::Running(txn_run.copy(self.resources.alloc)?))
+            }
+            Some(Doing::RunningSweep(sweep_run)) => Some(Doing::RunningSweep(sweep_run.copy()?)),
             None => None,
         };
         Ok(Agent {
@@ -187,7 +190,13 @@ impl Agent {
         ensures memory { IfErr result (λ _. IsTrue (wanting.by_asking (agents.next_of self.now.fixed self.now.state))) }
     {
         match &self.doing {
-            Some(doing) => doing.ask(&self.resources, request),
+            Some(Doing::Running(txn_run)) => {
+                txn_run.ask(self.resources.alloc, &self.resources.fixed_parts, request)
+            }
+            Some(Doing::RunningSweep(sweep_run)) => {
+                let server = sweep_run.ask(&self.resources.fixed_parts, request)?;
+                Ok(Some(server))
+            }
             None => Ok(None),
         }
     }
@@ -197,7 +206,10 @@ impl Agent {
         ensures { result ≡ option_map (λ asked. asked.0) (agents.next_of self.now.fixed self.now.state) }
     {
         match &self.doing {
-            Some(doing) => doing.asked(&self.resources.fixed_parts),
+            Some(Doing::Running(txn_run)) => txn_run.asked(&self.resources.fixed_parts),
+            Some(Doing::RunningSweep(sweep_run)) => {
+                Some(sweep_run.asked(&self.resources.fixed_parts))
+            }
             None => None,
         }
     }
@@ -266,7 +278,8 @@ impl Agent {
         ensures { result ≡ stage_of self.now.state.doing }
     {
         match &self.doing {
-            Some(doing) => doing.stage(),
+            Some(Doing::Running(txn_run)) => txn_run.stage(),
+            Some(Doing::RunningSweep(sweep_run)) => sweep_run.stage(),
             None => Stage::Idle,
         }
     }
@@ -277,8 +290,8 @@ impl Agent {
         ensures { result.now ≡ gathered_in self.now.state.doing }
     {
         match &self.doing {
-            Some(doing) => doing.gathered(),
-            None => &[],
+            Some(Doing::Running(txn_run)) => txn_run.gathered(),
+            Some(Doing::RunningSweep(_)) | None => &[],
         }
     }
 
@@ -309,26 +322,6 @@ impl Agent {
 }
 
 impl Doing {
-    /// How far it is.
-    fn stage(&self) -> Stage
-        ensures { result ≡ stage_of (Some (doing_of self.now)) }
-    {
-        match self {
-            Doing::Running(txn_run) => txn_run.stage(),
-            Doing::RunningSweep(sweep_run) => sweep_run.stage(),
-        }
-    }
-
-    /// What was gathered.
-    fn gathered(&self) -> &[(u64, GatheredSuite)]
-        ensures { result.now ≡ gathered_in (Some (doing_of self.now)) }
-    {
-        match self {
-            Doing::Running(txn_run) => txn_run.gathered(),
-            Doing::RunningSweep(_) => &[],
-        }
-    }
-
     /// Whether another is the same, if its transaction is the same, and that gathered the same.
     fn same_but_work(&self, other: &Doing) -> bool
         ensures { IsTrue result → DoSameButWork (Some (doing_of self.now)) (Some (doing_of other.now)) }
@@ -337,48 +330,6 @@ impl Doing {
             (Doing::Running(own), Doing::Running(theirs)) => same_phase(&own.phase, &theirs.phase),
             (Doing::RunningSweep(own), Doing::RunningSweep(theirs)) => own.same(theirs),
             _ => false,
-        }
-    }
-
-    /// The same.
-    fn copy(&self, alloc: Global) -> Result<Doing, AllocError>
-        ensures { IfOk result (λ copy. copy ≡ self.now) }
-    {
-        Ok(match self {
-            Doing::Running(txn_run) => Doing::Running(txn_run.copy(alloc)?),
-            Doing::RunningSweep(sweep_run) => Doing::RunningSweep(sweep_run.copy()?),
-        })
-    }
-
-    /// The server that is asked next.
-    fn asked(&self, fixed_parts: &FixedParts) -> Option<u8>
-        requires { (0 < fixed_parts.now.servers) × (fixed_parts.now.servers ≤ MAX_SERVERS) }
-        ensures { (limits : Limits) → result ≡ option_map (λ asked. asked.0) (agents.next_in (fixed_on fixed_parts.now limits) (Some (doing_of self.now))) }
-    {
-        match self {
-            Doing::Running(txn_run) => txn_run.asked(fixed_parts),
-            Doing::RunningSweep(sweep_run) => Some(sweep_run.asked(fixed_parts)),
-        }
-    }
-
-    /// Of which server is asked next, and what, which is put into its place.
-    fn ask(&self, resources: &Resources, request: &mut Request) -> Result<Option<u8>, AllocError>
-        requires { (0 < resources.now.fixed_parts.servers) × (resources.now.fixed_parts.servers ≤ MAX_SERVERS) }
-        ensures ok { IfOk result (λ server. Asks (λ fixed. agents.next_in fixed (Some (doing_of self.now))) resources.now.fixed_parts server request.new) }
-        ensures none { IfOk result (λ server. IfNone server (request.new ≡ request.old)) }
-        ensures err { OnErr result (request.new ≡ request.old) }
-        ensures memory { IfErr result (λ _. Wants (λ fixed. agents.next_in fixed (Some (doing_of self.now))) resources.now.fixed_parts) }
-    {
-        match self {
-            Doing::Running(txn_run) => txn_run.ask(
-                resources.alloc,
-                &resources.fixed_parts,
-                request,
-            ),
-            Doing::RunningSweep(sweep_run) => {
-                let server = sweep_run.ask(&resources.fixed_parts, request)?;
-                Ok(Some(server))
-            }
         }
     }
 }
