@@ -1,5 +1,5 @@
 -- What a transaction asks while it gathers.
-use Rattle.txn_core.proofs.Vocabulary.{◌≡◌, ℕ, Bool, Option, Some, ap, same_Some, LockMode, Request, Poll, Upgrade, GatheredSuite, Task, asked_for, arith, fetched_for}
+use Rattle.txn_core.proofs.Vocabulary.{◌≡◌, ℕ, Bool, Option, Some, ap, same_Some, LockMode, Request, GatheredSuite, Task, asked_for, arith, fetched_for}
 use Rattle.rep_core.specs.declared.request.Request.TheVariants as request
 
 pub asks_same : (a b : ℕ) (x y : Request) → ◌≡◌ {A = Option (ℕ × Request)} (Some (a, x)) (Some (b, y)) → x ≡ y

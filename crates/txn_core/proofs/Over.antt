@@ -4,7 +4,6 @@ use Rattle.txn_core.proofs.Vocabulary.{Response, Cause, Ending, Replied, Lacked,
 use Rattle.txn_core.proofs.Vocabulary.{GoesOn, Ends, Step, tell_end, give_up, locked_at, heard_of, is_poll, said_to, given_in, lack_cause, after_lack, after_response, Agent, Event, Take, Forget, next_in, next_of, take_in, take, begin, forget}
 use Rattle.txn_core.proofs.Vocabulary.{after_all, Exchange, exchange_of, exchanges, is_decide, is_prepare, is_down, ends_it, NothingFollowsAnEnd}
 use Rattle.rep_core.specs.declared.reply.Verdict.TheVariants as verdict
-use Rattle.suite_collect.specs.declared.told.Said.TheVariants as said
 use Rattle.txn_core.specs.Agents as agents
 
 -- nothing but the end is told any more

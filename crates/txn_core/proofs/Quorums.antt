@@ -1,6 +1,6 @@
 -- What is decided is decided on quorums.
 use Rattle.txn_core.proofs.Vocabulary.{◌≡◌, ℕ, zero, suc, ◌+◌, Bool, true, false, cond, List, [], ◌∷◌, Option, Some, None, Ok, Err, refl, sym, ap, subst, ◌∙◌, arith, ◌==◌, ◌&&◌, ◌||◌, nat_lt, ◌*◌, eqb-true, false≢true, same_Some, Configuration}
-use Rattle.txn_core.proofs.Vocabulary.{Content, Prefix, Answer, LockMode, Request, Reply, Verdict, Lack, Change, Hold, Know, Told, Said, told_since, all_told, tell, tell_at, mode_of, Next, Ask, Current, Short, next, Cache, ReadPoint, GatheredSuite}
+use Rattle.txn_core.proofs.Vocabulary.{Content, Prefix, Answer, LockMode, Request, Reply, Verdict, Lack, Change, Hold, Know, Told, Said, told_since, tell, tell_at, mode_of, Next, Ask, Current, Short, next, Cache, ReadPoint, GatheredSuite}
 use Rattle.txn_core.proofs.Vocabulary.{Suites, suite_of, with_suite, settled, sets_votes, change_of, Response, Cause, Ending, Job, Replied, Lacked, Lost, Undecided, Transaction, Sweep, Changes, Granted, Fixed, Task, Proposal, Phase, Gathering}
 use Rattle.txn_core.proofs.Vocabulary.{Fetching, Widening, Preparing, Deciding, Finishing, TransactionRun, SweepRun, Doing, Running, RunningSweep, After, Step, Gathered, tell_end, give_up, prepare, locked_at, short_cause, gather_by, widen_by}
 use Rattle.txn_core.proofs.Vocabulary.{widen_one, widened, widen_all, to_widen, votes_then, votes_after, opened, or_all, open_needed, open_suite, open_first, opened_with, free_content, heard_on, raised_or_new, keep_content, heard_of, said_to}

@@ -1,5 +1,5 @@
 -- How far a transaction came, as its suites and its phase go on.
-use Rattle.txn_core.proofs.Vocabulary.{◌≡◌, ℕ, Bool, true, false, cond, List, [], ◌∷◌, Option, Some, None, Ok, Err, refl, sym, ap, subst, ◌∙◌, option_map, MatchOption, IsSomeAnd, nat_cmp, false≢true, none-some, same_Some, arith, IsOrdered, Content}
+use Rattle.txn_core.proofs.Vocabulary.{◌≡◌, ℕ, Bool, true, cond, List, [], ◌∷◌, Option, Some, None, Ok, Err, refl, sym, ap, subst, ◌∙◌, option_map, MatchOption, IsSomeAnd, nat_cmp, false≢true, none-some, same_Some, arith, IsOrdered, Content}
 use Rattle.txn_core.proofs.Vocabulary.{Reply, Verdict, Request, is_prepared, Limited, Cache, Service, MoreKnown, Knowledge, opened_suite, Reached, IsReached, unbegun, takes, Cause, Ending, Lost, Undecided, Replied, Plan, Fetched, NextPhase, Fixed}
 use Rattle.txn_core.proofs.Vocabulary.{Task, Granted, Proposal, Phase, Gathering, Fetching, Widening, Preparing, Deciding, Finishing, TransactionRun, After, GoesOn, Ends, ReadPoint, GatheredSuite, Suites, suite_of, with_suite, known_row, known_of}
 use Rattle.txn_core.proofs.Vocabulary.{Gathered, Step, decided, verdict_in, ending_by, cause_of_abort, tell_end, give_up, locked_at, prepare, to_widen, widened, widen_by, widen_one, widen_all, heard_of, after_reply, is_idle, Reaches, doing_of, heard}
@@ -8,7 +8,7 @@ use Rattle.txn_core.proofs.Vocabulary.{gather_again, follow, taken, takes_in, ne
 use Rattle.file_exec.proofs.Reaching.{unbegun_is_reached, reached_stays, taking_tells_more}
 use Rattle.txn_core.specs.declared.next_phase.NextPhase.TheVariants.{Gather, Fetch, Grant, Refuse}
 use Rattle.txn_core.specs.declared.learned.Learned.TheVariants.{Nothing, Quorum, Content as Given}
-use Rattle.suite_collect.specs.Collecting.{Next, Short, next}
+use Rattle.suite_collect.specs.Collecting.{Next, next}
 use Rattle.txn_core.specs.declared.agent.Doing.{Doing as Coded}
 use Rattle.rep_core.specs.declared.reply.Verdict.TheVariants as verdict
 use Rattle.file_exec.specs.Known as exec_known

@@ -3,7 +3,6 @@ use Rattle.txn_core.proofs.Vocabulary.{◌≡◌, ℕ, Bool, true, false, cond, 
 use Rattle.txn_core.proofs.Vocabulary.{Change, ReadPoint, GatheredSuite, Suites, suite_of, row_with, known_row, known_if, known_of, Changes, Fixed, Task, change_of, is_changed, heard_on}
 use Rattle.file_ops.specs.Rows.{Row}
 use Rattle.file_exec.proofs.Unset.{changes_are_held, unset_votes_stay}
-use Rattle.suite_prefix.specs.declared.copies.PrefixKind.TheVariants as kind
 use Rattle.file_exec.specs.declared.executor.Outcome.TheVariants as exec
 use Rattle.file_exec.specs.Known as known
 

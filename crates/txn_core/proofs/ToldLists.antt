@@ -5,7 +5,6 @@ use Rattle.txn_core.proofs.Vocabulary.{with_suite, told_in, told_at, Response, R
 use Rattle.txn_core.proofs.Vocabulary.{widens_by, lacks_wide, MovesTo, Collects, now_told, asks_on, falls_short, settles, loses, is_lacked, strays, gets, Step, Gathered, opened, or_all, open_needed, open_suite, open_first, opened_with, free_content}
 use Rattle.txn_core.proofs.Vocabulary.{heard_on, raised_or_new, said_to, execute, after_response, asked_for, request_in, Outcome as Executed, Hears as Moved}
 use Rattle.std.specs.List.Sorted.{IsStrictlySortedBy}
-use Rattle.rep_core.specs.declared.request.Request.TheVariants as request
 use Rattle.file_exec.specs.declared.executor.Outcome.TheVariants as exec
 use Rattle.txn_core.proofs.Moving.{kept, left_by, collects_asks, asks_nothing, execute_moves, response_moves}
 

@@ -1,5 +1,5 @@
 -- Undecided ends are caused.
-use Rattle.txn_core.proofs.Vocabulary.{◌≡◌, ℕ, ◌+◌, Bool, true, ◌⊎◌, inl, inr, List, [], ◌∷◌, ◌++◌, Option, Some, None, refl, sym, ap, subst, ◌∙◌, eqb-true, same_Some, Identity, Op, Cache, Said, Configuration, Prefix, arith, LockMode, Exclusive}
+use Rattle.txn_core.proofs.Vocabulary.{◌≡◌, ℕ, Bool, true, ◌⊎◌, inl, inr, List, [], ◌∷◌, ◌++◌, Option, Some, None, refl, sym, ap, subst, ◌∙◌, eqb-true, same_Some, Identity, Op, Cache, Said, Configuration, Prefix, arith, LockMode, Exclusive}
 use Rattle.txn_core.proofs.Vocabulary.{Service, Lock, Request, Reply, Lack, fits, newest, has_told, has_refused, first_busy, told_since, votes_or, mode_or, all_told, counted, wanted, is_member, contains_from, Response, Replied, Lacked, Cause}
 use Rattle.txn_core.proofs.Vocabulary.{Unavailable, Busy, Lost, Full, Memory, Ending, Undecided, Job, Transaction, Sweep, Suites, Fixed, Task, TransactionRun, Sweeping, SweepRun, Doing, Running, RunningSweep, After, GoesOn, Ends, heard_on, to_widen}
 use Rattle.txn_core.proofs.Vocabulary.{after_response, lack_cause, Agent, Event, Take, next_in, end_of, take_in, begin, after_all, Exchange, of_job, exchange_of, told_of, fits_response, all_fit, has_said, holding, refusing, down, task_of, IsStart}

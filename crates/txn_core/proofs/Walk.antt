@@ -1,5 +1,5 @@
 -- One walk through what a transaction does with a response, for each claim on what is left after it.
-use Rattle.txn_core.proofs.Vocabulary.{ℕ, Request, next, Cache, Suites, Response, Cause, Fixed, Task, Proposal, Phase, Gathering, Fetching, Widening, TransactionRun, After, GoesOn, Stage, Executes, Asks, PreparesAt, arith, Tells, TellsAt, Point}
+use Rattle.txn_core.proofs.Vocabulary.{ℕ, Request, Cache, Suites, Response, Cause, Fixed, Task, Proposal, Phase, Gathering, Fetching, Widening, TransactionRun, After, GoesOn, Stage, Executes, Asks, PreparesAt, arith, Tells, TellsAt, Point}
 use Rattle.txn_core.proofs.Vocabulary.{point, EndsIn, Move, MovesTo, Hears, Step, Gathered, give_up, prepare, locked_at, execute, after_response}
 use Rattle.txn_core.proofs.Moving.{kept, execute_moves, response_moves}
 

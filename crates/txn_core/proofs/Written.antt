@@ -1,5 +1,5 @@
 -- What is written is fixed before the first Prepare.
-use Rattle.txn_core.proofs.Vocabulary.{◌≡◌, ℕ, true, false, List, [], ◌∷◌, ◌++◌, Option, Some, None, refl, sym, ap, subst, ◌∙◌, false≢true, same_Some, Has, has_from, Part, Request, Verdict, Cache, Suites, arith, parts_at, Response, Ending, Changes}
+use Rattle.txn_core.proofs.Vocabulary.{◌≡◌, ℕ, false, List, [], ◌∷◌, ◌++◌, Option, Some, None, refl, sym, ap, subst, ◌∙◌, false≢true, same_Some, Has, has_from, Part, Request, Verdict, Cache, Suites, arith, parts_at, Response, Ending, Changes}
 use Rattle.txn_core.proofs.Vocabulary.{Fixed, Task, Proposal, Phase, Preparing, Deciding, Finishing, Sweeping, SweepRun, Doing, Running, RunningSweep, After, tell_end, prepare, after_response, request_in, changes_of, Agent, Event, Take, Forget}
 use Rattle.txn_core.proofs.Vocabulary.{next_in, next_of, take_in, take, begin, forget, Exchange, exchange_of, exchanges, is_prepare, WhatIsWrittenIsFixed}
 use Rattle.rep_core.specs.declared.request.Request.TheVariants as request

@@ -16,6 +16,5 @@ pub mod Asking
 pub mod Planning
 pub mod Leaving
 pub mod Sorting
-pub mod Telling
 pub mod Reaching
 pub mod Equality

@@ -11,7 +11,6 @@ ghost use Rattle.txn_core.specs.Standing.{FitsAsked, response_of};
 ghost use Rattle.txn_core.specs.Stages.{gathered_in, stage_of};
 ghost use Rattle.txn_core.specs.Wanting as wanting;
 ghost use Rattle.txn_core.specs.code.Asking.{Asks, Wants, fixed_on};
-ghost use Rattle.txn_core.specs.code.Telling.{carrying_out};
 
 use crate::ending::{Ending, Flow};
 use crate::fixed_parts::FixedParts;
@@ -159,7 +158,9 @@ impl Agent {
                     site: *site,
                     ops: ops.clone()?,
                 };
-                self.carry_out(task)
+                let txn_run = TransactionRun::begin(&mut self.resources, task)?;
+                self.doing = txn_run.map(Doing::Running);
+                Ok(())
             }
             Job::Sweep { server } => {
                 let sweep_run = SweepRun::new(self.resources.alloc, *server);
@@ -167,17 +168,6 @@ impl Agent {
                 Ok(())
             }
         }
-    }
-
-    /// A transaction starts.
-    fn carry_out(&mut self, task: Task) -> Result<(), AllocError>
-        requires { agents.is_idle self.old.state.doing ≡ true }
-        ensures ok { OnOk result (self.new ≡ carrying_out task self.old) }
-        ensures err { OnErr result (self.new ≡ self.old) }
-    {
-        let txn_run = TransactionRun::begin(&mut self.resources, task)?;
-        self.doing = txn_run.map(Doing::Running);
-        Ok(())
     }
 
     /// Of which server it asks next, and what, which is put into a place of the caller's: nothing is, where

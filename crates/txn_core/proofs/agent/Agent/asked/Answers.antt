@@ -1,4 +1,4 @@
-use Rattle.txn_core.proofs.Vocabulary.{rules, ◌≡◌, Some, ap, sym, ◌∙◌, option_map, doing_of, standing_of, next_in, next_of, Running, Standing}
+use Rattle.txn_core.proofs.Vocabulary.{rules, ◌≡◌, Some, ap, sym, ◌∙◌, standing_of, next_in, next_of, Running, Standing}
 use Rattle.txn_core.proofs.Replies.{server_of}
 use Rattle.txn_core.proofs.agent.Agent.asked.Goals as goal
 

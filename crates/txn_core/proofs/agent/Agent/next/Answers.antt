@@ -1,4 +1,4 @@
-use Rattle.txn_core.proofs.Vocabulary.{rules, ◌≡◌, ℕ, true, Option, Some, ap, sym, ◌∙◌, AllocError, option_map, IfOk-weaker, IfErr-weaker, Request, Limits, Running, doing_of, standing_of, next_of, next_in, Standing, by_asking}
+use Rattle.txn_core.proofs.Vocabulary.{rules, ◌≡◌, ℕ, true, Option, Some, ap, sym, ◌∙◌, AllocError, option_map, IfOk-weaker, IfErr-weaker, Request, Limits, Running, standing_of, next_of, next_in, Standing, by_asking}
 use Rattle.txn_core.proofs.agent.Agent.next.Goals as goal
 
 pub returns-in-Some-Running-clause-ok : goal.returns-in-Some-Running-clause-ok

@@ -1,4 +1,4 @@
-use Rattle.txn_core.proofs.Vocabulary.{rules, ◌≡◌, refl, ending_of}
+use Rattle.txn_core.proofs.Vocabulary.{rules, refl, ending_of}
 use Rattle.txn_core.specs.Standing.{response_of}
 use Rattle.txn_core.proofs.ResponseTaken.{Came, run_replied, run_lacked, sweep_replied, sweep_lacked, idle_told, ended_stands}
 use Rattle.txn_core.proofs.agent.Agent.take.Goals as goal
