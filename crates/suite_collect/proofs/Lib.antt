@@ -7,5 +7,4 @@ pub mod Shortness
 pub mod Fewness
 pub mod Staying
 pub mod Dues
-pub mod Counts
 pub mod Refusals

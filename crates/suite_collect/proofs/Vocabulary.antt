@@ -1,11 +1,10 @@
 -- The names that the proofs of this crate take from elsewhere, each with one meaning here.
-pub use Rattle.std.proofs.Common.{All, Bool, IfSome, IsSome, List, None, Option, Some, [], ap, arith, cond, drop, false, filter, find, inl, inr, is_some, length, map, max, nat_le, nat_lt, not, option_map, refl, rules, subst, suc, sym, true}
+pub use Rattle.std.proofs.Common.{All, Bool, IsSome, List, None, Option, Some, [], ap, arith, cond, drop, false, filter, find, inl, inr, is_some, length, map, max, nat_le, nat_lt, not, option_map, refl, rules, subst, sym, true}
 pub use Rattle.std.proofs.Common.{ℕ, ◌&&◌, ◌*◌, ◌++◌, ◌+◌, ◌<◌, ◌==◌, ◌||◌, ◌∙◌, ◌∷◌, ◌≡◌, ◌≤◌, ◌⊎◌}
 pub use Rattle.std.proofs.lemmas.Bool.{and_parts, cases_lt, eq-eqb, eqb-true, false≢true}
 pub use Rattle.std.proofs.lemmas.Bool.Decides.{nat_tests}
 pub use Rattle.std.specs.FinSet.{contains}
 pub use Rattle.std.specs.List.{list_all, list_any}
-pub use Rattle.std.specs.Prelude.{unwrap_or}
 pub use Rattle.rep_core.specs.declared.reply.Reply.{Reply}
 pub use Rattle.suite_prefix.specs.LockModes.{is_exclusive, serves}
 pub use Rattle.suite_prefix.specs.declared.copies.Prefix.{Prefix}
@@ -40,16 +39,14 @@ pub use types.ByLocal.{alloc_all, free_all, get, look_at, pass_all, sets}
 pub use types.Logic.{Logic}
 pub use types.Part.{agg}
 pub use types.Run.{and_then, enter, no_more, returns}
-pub use Rattle.suite_collect.specs.Answering.{Completes, Hears, IsTold, asked_in, has_quorum, read_point, shows_lock}
+pub use Rattle.suite_collect.specs.Answering.{Hears, IsTold, has_quorum, shows_lock}
 pub use Rattle.suite_collect.specs.Collecting.{Ask, Asked, Collecting, Collector, Current, Next, Poll, Short, Upgrade, Widening, all_told, ask_or_short, asked_of, collect, counted, first_members, got, is_left, is_member, members_of}
-pub use Rattle.suite_collect.specs.Collecting.{mode_asked, mode_or, needed, needed_of, next, raised, request_for, said_down, said_to, source, tell, tell_at, told_by, told_since, version, votes_or, wanted, widen}
+pub use Rattle.suite_collect.specs.Collecting.{mode_asked, mode_or, needed, needed_of, next, raised, said_to, source, tell, tell_at, told_by, told_since, version, votes_or, wanted, widen}
 pub use Rattle.suite_collect.specs.Laws.{AsksAreFew, CurrentIsAQuorum, EachHasAVote, HasSource, IsCurrent, IsKept, NobodyIsAskedTwice, PrefixAndVersionStay, Raise, ShortHasNoneLeft, Step, Take, WasShown, Widen, WidenedIsAWriteQuorum}
 pub use Rattle.suite_collect.specs.Laws.{after_all, after_step, among, told_or}
 pub use Rattle.suite_collect.specs.Telling.{busy_in, first_busy, greatest, has_refused, has_told, holds, is_busy_with, is_down, is_held, newer, newest, shown}
-pub use Rattle.suite_collect.specs.code.CollectFields.{IsSummed, collecting_of, due_of, tally_of, widening_of}
-pub use Rattle.suite_collect.specs.code.Dues.{Due, IsKnown, Standing, due_among, due_in, due_left, is_left_by, tally_among, tally_by, tally_in}
-pub use Rattle.suite_collect.specs.code.Sayings.{said_of, told_of}
-pub use Rattle.suite_collect.specs.declared.collect.Collect.TheInside.{Inside}
+pub use Rattle.suite_collect.specs.code.CollectFields.{due_of}
+pub use Rattle.suite_collect.specs.code.Dues.{Due, due_left, is_left_by}
 pub use Rattle.suite_collect.specs.declared.told.Said.{Said}
 pub use Rattle.suite_collect.specs.declared.told.Said.TheVariants.{Busy, Down, Held}
 pub use Rattle.suite_collect.specs.declared.told.Told.{Told}

@@ -1,5 +1,3 @@
-pub mod Sayings
-pub mod Adding
 pub mod HeardFields
 pub mod Dues
 pub mod CollectFields

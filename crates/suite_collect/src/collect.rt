@@ -1,26 +1,22 @@
 //! The collector.
 
 ghost use Rattle.std.specs.FinSet.{contains};
-ghost use Rattle.std.specs.Prelude.{◌≡◌, ℕ, ◌<◌, option_map, is_some, true, IsTrue, IfOk, IfSome, IfErr, OnOk, OnErr};
-ghost use Rattle.vote_core.specs.Validity.{IsValid};
-ghost use Rattle.suite_collect.specs.code.CollectFields.{tally_of, widening_of};
-ghost use Rattle.suite_collect.specs.code.Adding.{IsAdded};
-ghost use Rattle.suite_collect.specs.code.Dues.{IsKnown, tally_in};
-ghost use Rattle.suite_collect.specs.code.Sayings.{said_of, told_of};
+ghost use Rattle.std.specs.Prelude.{◌≡◌, ℕ, ◌<◌, is_some, IsTrue, IfOk, IfSome, IfErr, OnOk, OnErr};
+ghost use Rattle.suite_collect.specs.code.CollectFields.{due_of};
+ghost use Rattle.suite_collect.specs.code.Dues.{IsKnown, due_in};
 ghost use Rattle.suite_collect.specs.Collecting as spec;
 ghost use Rattle.suite_collect.specs.Telling as telling;
-ghost use Rattle.suite_collect.specs.Telling.{is_held};
 
 use crate::coming::{Asked, Coming};
-use crate::due::{Due, Standing, due_among, tally_of};
+use crate::due::{Due, due_by};
 use crate::heard::Heard;
 use crate::hearing::Hearing;
 use crate::log::Log;
-use crate::members::{members_of, votes_with};
-use crate::newest::{newer_in, newer_of, newest_of, show};
+use crate::members::members_of;
+use crate::newest::{newer_of, newest_of, show};
 use crate::next::{Members, Next};
 use crate::read_point::ReadPoint;
-use crate::told::{Saying, Spoken, Told};
+use crate::told::{Said, Told};
 use crate::widening::Widening;
 use rep_core::Reply;
 use std::alloc::AllocError;
@@ -41,9 +37,8 @@ pub struct Collect {
     /// What was told before a widening.
     told: Heard,
     widening: Option<Widening>,
-    /// What is due, and the votes that are had. They are found where something changes, and not each time
-    /// that they are asked for.
-    tally: Standing,
+    /// What is due. It is found where something changes, and not each time that it is asked for.
+    due: Due,
 }
 
 impl Model for Collect {
@@ -77,7 +72,7 @@ impl Clone for Collect {
             newer,
             told: self.told.same(),
             widening: self.widening.as_ref().map(Widening::same),
-            tally: self.tally,
+            due: self.due,
         })
     }
 }
@@ -93,7 +88,7 @@ impl Collect {
         ensures { result ≡ record { t = t; suite = suite; collector = spec.collect mode start } }
     {
         let told = Heard::new();
-        let tally = tally_of(&start.votes, &told, mode);
+        let due = due_by(&start.votes, &told, mode);
         Collect {
             t,
             suite,
@@ -102,7 +97,7 @@ impl Collect {
             newer: None,
             told,
             widening: None,
-            tally,
+            due,
         }
     }
 
@@ -112,9 +107,9 @@ impl Collect {
         ensures { self.new ≡ record self.old { collector = spec.raise self.old.collector } }
     {
         if self.widening.is_none() {
-            let tally = tally_of(&self.newest().votes, &self.told, LockMode::Exclusive);
+            let due = due_by(&self.newest().votes, &self.told, LockMode::Exclusive);
             self.mode = LockMode::Exclusive;
-            self.tally = tally;
+            self.due = due;
         }
     }
 
@@ -122,7 +117,7 @@ impl Collect {
     pub fn widen(&mut self, votes: &Votes)
         ensures { self.new ≡ record self.old { collector = spec.widen votes.now self.old.collector } }
     {
-        let tally = tally_of(votes, self.heard(), LockMode::Exclusive);
+        let due = due_by(votes, self.heard(), LockMode::Exclusive);
         match &mut self.widening {
             Some(widening) => widening.votes = *votes,
             None => {
@@ -133,23 +128,19 @@ impl Collect {
                 });
             }
         }
-        self.tally = tally;
+        self.due = due;
     }
 
     /// What comes next. It takes no memory.
     pub fn next(&self) -> Next<'_>
         ensures { Tells result self.now }
     {
-        match self.tally.due {
-            Due::Current => {
-                let first = self.first_members();
-                let dver = self.told.greatest(first.as_slice());
-                Next::Current {
-                    prefix: self.newest(),
-                    dver,
-                    members: self.members(first),
-                }
-            }
+        match self.due {
+            Due::Current => Next::Current {
+                prefix: self.newest(),
+                dver: self.version(),
+                members: self.members(),
+            },
             Due::Ask { server } => Next::Ask {
                 server,
                 request: self.asked(server).request(self.t, self.suite),
@@ -166,7 +157,7 @@ impl Collect {
     pub fn coming(&self) -> Coming
         ensures { Comes result (spec.next self.now.collector) }
     {
-        match self.tally.due {
+        match self.due {
             Due::Current => Coming::Current,
             Due::Ask { server } => Coming::Ask {
                 server,
@@ -188,11 +179,10 @@ impl Collect {
         ensures err { OnErr result (self.new ≡ self.old) }
         ensures memory { IfErr result (λ _. IsTrue (shows_lock reply.now)) }
     {
-        let Some(said) = self.said_by(reply) else {
+        let Some(said) = self.said_by(reply)? else {
             return Ok(false);
         };
-        let after = self.tally_after(said);
-        self.put(said, after)?;
+        self.tell(said);
         Ok(true)
     }
 
@@ -203,42 +193,42 @@ impl Collect {
         ensures err { OnErr result (self.new ≡ self.old) }
         ensures memory { IfErr result (λ _. IsTrue (shows_lock reply.now)) }
     {
-        let Some(last) = self.said_by(reply) else {
+        let Some(last) = self.said_by(reply)? else {
             return Ok(Hearing::Lost);
         };
-        let tally = self.tally_after(last);
-        let hearing = match tally.due {
-            Due::Current => return Ok(Hearing::Quorum(last.keep()?)),
+        let due = self.due_after(&last);
+        let hearing = match due {
+            Due::Current => return Ok(Hearing::Quorum(last)),
             Due::Ask { .. } => Hearing::Asks,
             Due::Short { .. } => Hearing::Short,
         };
-        self.put(last, tally)?;
+        self.put(last, due);
         Ok(hearing)
     }
 
     /// What a reply says that answers what was asked; nothing, where the transaction is to end.
-    fn said_by<'a>(&self, reply: &'a Reply) -> Option<Saying<'a>>
-        ensures told { option_map told_of result ≡ spec.told_by (spec.next self.now.collector) reply.now }
-        ensures known { IfSome result (λ one. one.server < MAX_SERVERS) }
-        ensures lock { IfSome result (λ one. is_held (said_of one.what) ≡ shows_lock reply.now) }
+    fn said_by(&self, reply: &Reply) -> Result<Option<Told>, AllocError>
+        ensures told { IfOk result (λ told. told ≡ spec.told_by (spec.next self.now.collector) reply.now) }
+        ensures known { IfOk result (λ told. IfSome told (λ one. one.server < MAX_SERVERS)) }
+        ensures memory { IfErr result (λ _. IsTrue (shows_lock reply.now)) }
     {
-        let Due::Ask { server } = self.tally.due else {
-            return None;
+        let Due::Ask { server } = self.due else {
+            return Ok(None);
         };
-        let what = match reply {
-            Reply::Held { prefix, dver } => Spoken::Held {
-                prefix,
+        let said = match reply {
+            Reply::Held { prefix, dver } => Said::Held {
+                prefix: prefix.clone()?,
                 dver: *dver,
             },
-            Reply::Busy { holder, .. } => Spoken::Busy { holder: *holder },
+            Reply::Busy { holder, .. } => Said::Busy { holder: *holder },
             Reply::Down => match self.asked(server) {
-                Asked::Poll(_) => Spoken::Down,
-                Asked::Upgrade => return None,
+                Asked::Poll(_) => Said::Down,
+                Asked::Upgrade => return Ok(None),
             },
-            _ => return None,
+            _ => return Ok(None),
         };
         let mode = self.wanted();
-        Some(Saying { server, mode, what })
+        Ok(Some(Told { server, mode, said }))
     }
 
     /// Something is told: what a server said that was asked.
@@ -246,11 +236,8 @@ impl Collect {
         requires { last.server < MAX_SERVERS }
         ensures { self.new ≡ record self.old { collector = spec.tell last self.old.collector } }
     {
-        self.tally = self.tally_after(last.lend());
-        add(&mut self.told, &mut self.widening, last.lend());
-        if self.widening.is_none() {
-            show(&mut self.newer, &self.start, last.said);
-        }
+        let due = self.due_after(&last);
+        self.put(last, due);
     }
 
     /// What the quorum gives that there is once this is told. Only the prefix, which is kept, needs memory.
@@ -258,51 +245,23 @@ impl Collect {
         requires { last.now.server < MAX_SERVERS }
         ensures { IfOk result (λ point. point ≡ read_point (spec.tell last.now self.now.collector)) }
     {
-        match &self.widening {
-            Some(widening) => self.widened_after(widening, last),
-            None => self.narrow_after(last),
-        }
+        let mut after = self.clone()?;
+        after.tell(last.keep()?);
+        after.read_point()
     }
 
-    /// What a quorum of these other votes gives, once this is told: prefix and version stay.
-    fn widened_after(&self, widening: &Widening, last: &Told) -> Result<ReadPoint, AllocError>
-        requires server { last.now.server < MAX_SERVERS }
-        requires is { self.now.collector.widening ≡ Some (widening_of widening.now) }
-        requires all { widening.now.all ≡ spec.all_told self.now.collector }
-        ensures { IfOk result (λ point. point ≡ read_point (spec.tell last.now self.now.collector)) }
+    /// What the quorum gives that there is.
+    fn read_point(&self) -> Result<ReadPoint, AllocError>
+        ensures { IfOk result (λ point. point ≡ read_point self.now.collector) }
     {
-        let dver = self.told.greatest(self.first_members().as_slice());
-        let holders = widening.all.holders_after(last.lend(), LockMode::Exclusive);
-        let members = members_of(&widening.votes, &holders);
-        let source = self
-            .told
-            .first_showing(dver, members.as_slice())
-            .unwrap_or(0);
+        let dver = self.version();
+        let members = self.members();
+        let source = self.told.first_showing(dver, members.as_slice());
         let prefix = self.newest().clone()?;
         Ok(ReadPoint {
             prefix,
             dver,
-            source,
-        })
-    }
-
-    /// What a quorum of the votes of the newest prefix gives, once this is told.
-    fn narrow_after(&self, last: &Told) -> Result<ReadPoint, AllocError>
-        requires server { last.now.server < MAX_SERVERS }
-        requires is { self.now.collector.widening ≡ None }
-        ensures { IfOk result (λ point. point ≡ read_point (spec.tell last.now self.now.collector)) }
-    {
-        let mut told = self.told.same();
-        told.add(last.lend());
-        let prefix = newer_of(self.newest(), last.lend());
-        let members = members_of(&prefix.votes, &told.holders(self.mode));
-        let dver = told.greatest(members.as_slice());
-        let source = told.first_showing(dver, members.as_slice()).unwrap_or(0);
-        let prefix = prefix.clone()?;
-        Ok(ReadPoint {
-            prefix,
-            dver,
-            source,
+            source: source.unwrap_or(0),
         })
     }
 
@@ -334,68 +293,32 @@ impl Collect {
         self.heard().holders(mode)
     }
 
-    /// What is due once this is told, and the votes that are had then.
-    #[inline(always)]
-    fn tally_after(&self, last: Saying<'_>) -> Standing
-        requires { last.server < MAX_SERVERS }
-        ensures value { tally_in result ≡ tally_of (spec.tell (told_of last.entry) self.now.collector) }
-        ensures known { IsKnown result.due }
+    /// What is due once this is told.
+    fn due_after(&self, last: &Told) -> Due
+        requires { last.now.server < MAX_SERVERS }
+        ensures value { due_in result ≡ due_of (spec.tell last.now self.now.collector) }
+        ensures known { IsKnown result }
     {
-        let wanted = self.wanted();
-        let heard = self.heard();
-        let holders = heard.holders_after(last, wanted);
-        let refused = heard.refused_after(last);
-        let votes = self.counted_after(last);
-        let got = self.got_after(last, votes);
-        let due = due_among(got, votes, &holders, &refused, wanted);
-        Standing { got, due }
+        let mut heard = self.heard().same();
+        heard.add(last);
+        due_by(self.counted_after(last), &heard, self.wanted())
     }
 
-    /// The votes that are had once this is told, where these votes count then. All are counted only where
-    /// others counted before.
-    #[inline(always)]
-    fn got_after(&self, last: Saying<'_>, votes: &Votes) -> u32
+    /// Puts what is told behind what was told before, and what is due then.
+    fn put(&mut self, last: Told, due: Due)
         requires server { last.server < MAX_SERVERS }
-        requires votes { votes.now ≡ spec.counted (spec.tell (told_of last) self.now.collector) }
-        ensures { result ≡ spec.got (spec.tell (told_of last.entry) self.now.collector) }
+        requires due { due_in due ≡ due_of (spec.tell last self.old.collector) }
+        requires known { IsKnown due }
+        ensures { self.new ≡ record self.old { collector = spec.tell last self.old.collector } }
     {
-        let wanted = self.wanted();
-        let heard = self.heard();
-        if !self.keeps_votes(last) {
-            return votes.votes_of(&heard.holders_after(last, wanted));
-        }
-        if !last.gives(wanted) {
-            return self.tally.got;
-        }
-        votes_with(votes, self.tally.got, &heard.holders(wanted), last.server)
-    }
-
-    /// Whether the votes that count stay once this is told. Before a widening those of a newer prefix do not.
-    fn keeps_votes(&self, last: Saying<'_>) -> bool
-        ensures { let c = self.now.collector in result ≡ true → spec.counted (spec.tell (told_of last.entry) c) ≡ spec.counted c }
-    {
-        self.widening.is_some() || newer_in(self.newest(), last).is_none()
-    }
-
-    /// Puts what is told behind what was told before, and what is due and had then. Only a prefix that is newer
-    /// than all others needs memory: a copy of it is kept.
-    #[inline(always)]
-    fn put(&mut self, last: Saying<'_>, tally: Standing) -> Result<(), AllocError>
-        requires server { last.server < MAX_SERVERS }
-        requires tally { tally_in tally ≡ tally_of (spec.tell (told_of last) self.old.collector) }
-        requires known { IsKnown tally.due }
-        ensures ok { OnOk result (self.new ≡ record self.old { collector = spec.tell (told_of last.entry) self.old.collector }) }
-        ensures err { OnErr result (self.new ≡ self.old) }
-        ensures memory { IfErr result (λ _. IsTrue (is_held (said_of last.entry.what))) }
-    {
-        if self.widening.is_none() {
-            if let Some(prefix) = newer_in(self.newest(), last) {
-                self.newer = Some(prefix.clone()?);
+        self.due = due;
+        match &mut self.widening {
+            Some(widening) => widening.add(&last),
+            None => {
+                self.told.add(&last);
+                show(&mut self.newer, &self.start, last.said);
             }
         }
-        self.tally = tally;
-        add(&mut self.told, &mut self.widening, last);
-        Ok(())
     }
 
     /// All that was told.
@@ -408,13 +331,23 @@ impl Collect {
         }
     }
 
-    /// The votes that count once this is told.
-    fn counted_after<'a>(&'a self, last: Saying<'a>) -> &'a Votes
-        ensures { result.now ≡ spec.counted (spec.tell (told_of last.entry) self.now.collector) }
+    /// The votes that count.
+    fn counted(&self) -> &Votes
+        ensures { result.now ≡ spec.counted self.now.collector }
     {
         match &self.widening {
             Some(widening) => &widening.votes,
-            None => &newer_of(self.newest(), last).votes,
+            None => &self.newest().votes,
+        }
+    }
+
+    /// The votes that count once this is told.
+    fn counted_after<'a>(&'a self, last: &'a Told) -> &'a Votes
+        ensures { result.now ≡ spec.counted (spec.tell last.now self.now.collector) }
+    {
+        match &self.widening {
+            Some(widening) => &widening.votes,
+            None => &newer_of(self.newest(), &last.said).votes,
         }
     }
 
@@ -440,39 +373,18 @@ impl Collect {
         }
     }
 
-    /// The members that are held, before a widening.
-    fn first_members(&self) -> Members
-        ensures members { result.items ≡ spec.first_members self.now.collector }
-        ensures valid { IsValid (newest self.now.collector.start self.now.collector.told).votes }
+    /// The version of the content. A widening leaves it as it was.
+    fn version(&self) -> u64
+        ensures { result ≡ spec.version self.now.collector }
     {
-        members_of(&self.newest().votes, &self.told.holders(self.mode))
+        let first = members_of(&self.newest().votes, &self.told.holders(self.mode));
+        self.told.greatest(first.as_slice())
     }
 
-    /// The members that are held of the votes that count: before a widening, the first ones.
-    fn members(&self, first: Members) -> Members
-        requires { first.items ≡ spec.first_members self.now.collector }
+    /// The members that are held of the votes that count.
+    fn members(&self) -> Members
         ensures { let c = self.now.collector in result.items ≡ spec.members_of (spec.counted c) (spec.is_member c) }
     {
-        match &self.widening {
-            Some(widening) => {
-                members_of(&widening.votes, &widening.all.holders(LockMode::Exclusive))
-            }
-            None => first,
-        }
-    }
-}
-
-/// Puts what is told behind what was told before: since the widening, where there is one.
-#[inline(always)]
-fn add(told: &mut Heard, widening: &mut Option<Widening>, last: Saying<'_>)
-    requires { last.server < MAX_SERVERS }
-    ensures { IsAdded (told_of last.entry) told.old widening.old told.new widening.new }
-{
-    match widening {
-        Some(widening) => {
-            widening.all.add(last);
-            widening.since = widening.since.and(&last);
-        }
-        None => told.add(last),
+        members_of(self.counted(), &self.heard().holders(self.wanted()))
     }
 }

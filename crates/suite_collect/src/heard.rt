@@ -2,11 +2,10 @@
 
 ghost use Rattle.std.specs.Prelude.{◌≡◌, ℕ, ◌<◌, ◌==◌, find, true, false, None, [], ◌∷◌};
 ghost use Rattle.std.specs.FinSet.{contains};
-ghost use Rattle.suite_collect.specs.code.Sayings.{said_of, told_of};
 ghost use Rattle.suite_collect.specs.Telling as telling;
 
 use crate::log::Log;
-use crate::told::{Saying, Spoken, Told};
+use crate::told::{Said, Told};
 use std::marker::Model;
 use suite_prefix::LockMode;
 use vote_core::{MAX_SERVERS, ServerSet};
@@ -67,42 +66,42 @@ impl Heard {
     }
 
     /// Adds what is told last.
-    pub(crate) fn add(&mut self, last: Saying<'_>)
-        requires { last.server < MAX_SERVERS }
-        ensures { self.new ≡ told_of last.entry ∷ self.old }
+    pub(crate) fn add(&mut self, last: &Told)
+        requires { last.now.server < MAX_SERVERS }
+        ensures { self.new ≡ last.now ∷ self.old }
     {
-        match last.what {
-            Spoken::Held { dver, .. } => self.add_lock(last, dver),
-            Spoken::Busy { holder } => self.add_refusal(last, Some((last.server, holder))),
-            Spoken::Down => self.add_refusal(last, None),
+        match &last.said {
+            Said::Held { dver, .. } => self.add_lock(last, *dver),
+            Said::Busy { holder } => self.add_refusal(last, Some((last.server, *holder))),
+            Said::Down => self.add_refusal(last, None),
         }
     }
 
     /// Adds that a server is down, or busy with another transaction.
-    fn add_refusal(&mut self, last: Saying<'_>, busy: Option<(u8, u64)>)
-        requires server { last.server < MAX_SERVERS }
-        requires refused { telling.is_held (said_of last.what) ≡ false }
-        requires busy { busy ≡ telling.busy_in last.server (said_of last.what) None }
-        ensures { self.new ≡ told_of last.entry ∷ self.old }
+    fn add_refusal(&mut self, last: &Told, busy: Option<(u8, u64)>)
+        requires server { last.now.server < MAX_SERVERS }
+        requires refused { telling.is_held last.now.said ≡ false }
+        requires busy { busy ≡ telling.busy_in last.now.server last.now.said None }
+        ensures { self.new ≡ last.now ∷ self.old }
     {
         self.refused.insert(last.server);
         self.busy = self.busy.or(busy);
-        self.told = self.told.and(&last);
+        self.told = self.told.and(last);
     }
 
     /// Adds a lock that a server holds, which shows this version of the content.
-    fn add_lock(&mut self, last: Saying<'_>, dver: u64)
-        requires server { last.server < MAX_SERVERS }
-        requires held { telling.is_held (said_of last.what) ≡ true }
-        requires version { (before : ℕ) → telling.version_in (said_of last.what) before ≡ dver }
-        ensures { self.new ≡ told_of last.entry ∷ self.old }
+    fn add_lock(&mut self, last: &Told, dver: u64)
+        requires server { last.now.server < MAX_SERVERS }
+        requires held { telling.is_held last.now.said ≡ true }
+        requires version { (before : ℕ) → telling.version_in last.now.said before ≡ dver }
+        ensures { self.new ≡ last.now ∷ self.old }
     {
         self.held.insert(last.server);
         if last.mode.is_exclusive() {
             self.exclusive.insert(last.server);
         }
         self.shown[usize::from(last.server)] = dver;
-        self.told = self.told.and(&last);
+        self.told = self.told.and(last);
     }
 
     /// The servers that hold a lock in a mode or a stronger one.
@@ -113,18 +112,6 @@ impl Heard {
             LockMode::Shared => self.held,
             LockMode::Exclusive => self.exclusive,
         }
-    }
-
-    /// The servers that hold a lock in a mode or a stronger one, once this is told too.
-    pub(crate) fn holders_after(&self, last: Saying<'_>, mode: LockMode) -> ServerSet
-        requires { last.server < MAX_SERVERS }
-        ensures { (server : ℕ) → contains result server ≡ telling.holds mode (told_of last.entry ∷ self.now) server }
-    {
-        let mut holders = self.holders(mode);
-        if last.gives(mode) {
-            holders.insert(last.server);
-        }
-        holders
     }
 
     /// Whether a server holds a lock in a mode or a stronger one.
@@ -139,18 +126,6 @@ impl Heard {
         ensures { (server : ℕ) → contains result server ≡ telling.has_refused self.now server }
     {
         self.refused
-    }
-
-    /// The servers that were found down or busy, once this is told too.
-    pub(crate) fn refused_after(&self, last: Saying<'_>) -> ServerSet
-        requires { last.server < MAX_SERVERS }
-        ensures { (server : ℕ) → contains result server ≡ telling.has_refused (told_of last.entry ∷ self.now) server }
-    {
-        let mut refused = self.refused;
-        if !last.is_held() {
-            refused.insert(last.server);
-        }
-        refused
     }
 
     /// The version of the content that a server showed last.

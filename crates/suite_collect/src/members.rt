@@ -1,8 +1,7 @@
 //! The members of some votes.
 
-ghost use Rattle.std.specs.Prelude.{◌≡◌, ℕ, ◌*◌, ◌<◌, ◌≤◌, ◌==◌, ◌||◌, Bool, All, find, option_map, IfSome};
+ghost use Rattle.std.specs.Prelude.{◌≡◌, ◌<◌, All, find, option_map, IfSome};
 ghost use Rattle.std.specs.FinSet.{contains};
-ghost use Rattle.vote_core.specs.Quorums.{votes_in};
 ghost use Rattle.vote_core.specs.Validity.{IsValid};
 ghost use Rattle.suite_collect.specs.code.Dues.{is_left_by};
 ghost use Rattle.suite_collect.specs.Collecting as spec;
@@ -23,25 +22,6 @@ pub(crate) fn members_of(votes: &Votes, held: &ServerSet) -> Members
         }
     }
     members
-}
-
-/// The votes of some servers and of one more, where those of the servers are so many.
-pub(crate) fn votes_with(votes: &Votes, got: u32, servers: &ServerSet, one: u8) -> u32
-    requires { got ≡ votes_in votes.now.reps (contains servers.now) }
-    ensures { result ≡ votes_in votes.now.reps (λ other. (one == other) || contains servers.now other) }
-{
-    if servers.contains(one) {
-        return got;
-    }
-    votes_are_few(votes);
-    got + u32::from(votes.votes_at(one))
-}
-
-/// A law: a server has at most 255 votes. It does nothing.
-fn votes_are_few(votes: &Votes)
-    ensures { (held : ℕ → Bool) → votes_in votes.now.reps held ≤ 255 * MAX_SERVERS }
-{
-    let _ = votes.reps();
 }
 
 /// The first server, in listed order, that has a vote and is in neither set.

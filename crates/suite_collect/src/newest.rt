@@ -1,12 +1,9 @@
 //! The newest prefix that servers showed.
 
-ghost use Rattle.std.specs.Prelude.{◌≡◌, unwrap_or, is_some, true};
-ghost use Rattle.std.specs.Option.{option_copied};
-ghost use Rattle.suite_collect.specs.code.Sayings.{said_of};
+ghost use Rattle.std.specs.Prelude.{◌≡◌, unwrap_or};
 ghost use Rattle.suite_collect.specs.Telling as telling;
-ghost use Rattle.suite_collect.specs.Telling.{is_held};
 
-use crate::told::{Said, Saying, Spoken};
+use crate::told::Said;
 use suite_prefix::SharedPrefix;
 
 /// The newest prefix.
@@ -22,21 +19,13 @@ pub(crate) fn newest_of<'a>(
     }
 }
 
-/// The newer of a prefix and what a server says.
-pub(crate) fn newer_of<'a>(newest: &'a SharedPrefix, last: Saying<'a>) -> &'a SharedPrefix
-    ensures { result.now ≡ telling.newer newest.now (said_of last.entry.what) }
+/// The newer of a prefix and one that a server shows.
+pub(crate) fn newer_of<'a>(newest: &'a SharedPrefix, said: &'a Said) -> &'a SharedPrefix
+    ensures { result.now ≡ telling.newer newest.now said.now }
 {
-    newer_in(newest, last).unwrap_or(newest)
-}
-
-/// The prefix that a server shows, where it is newer than the newest so far.
-pub(crate) fn newer_in<'a>(newest: &SharedPrefix, last: Saying<'a>) -> Option<&'a SharedPrefix>
-    ensures newer { unwrap_or (option_copied result) newest.now ≡ telling.newer newest.now (said_of last.entry.what) }
-    ensures held { is_some result ≡ true → is_held (said_of last.entry.what) ≡ true }
-{
-    match last.what {
-        Spoken::Held { prefix, .. } if prefix.pver > newest.pver => Some(prefix),
-        _ => None,
+    match said {
+        Said::Held { prefix, .. } if prefix.pver > newest.pver => prefix,
+        _ => newest,
     }
 }
 

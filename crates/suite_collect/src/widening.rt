@@ -1,11 +1,11 @@
 //! Other votes that a collector gathers too.
 
-ghost use Rattle.std.specs.Prelude.{◌≡◌};
+ghost use Rattle.std.specs.Prelude.{◌≡◌, ◌<◌, ◌∷◌};
 
 use crate::heard::Heard;
 use crate::log::Log;
 use crate::told::Told;
-use vote_core::Votes;
+use vote_core::{MAX_SERVERS, Votes};
 
 /// Other votes that are gathered too.
 #[derive(Drop)]
@@ -18,6 +18,17 @@ pub(crate) struct Widening {
 }
 
 impl Widening {
+    /// Adds what is told last.
+    pub(crate) fn add(&mut self, last: &Told)
+        requires { last.now.server < MAX_SERVERS }
+        ensures votes { self.new.votes ≡ self.old.votes }
+        ensures all { self.new.all ≡ last.now ∷ self.old.all }
+        ensures since { self.new.since.items ≡ last.now ∷ self.old.since.items }
+    {
+        self.all.add(last);
+        self.since = self.since.and(last);
+    }
+
     /// A copy.
     pub(crate) fn same(&self) -> Widening
         ensures votes { result.votes ≡ self.now.votes }

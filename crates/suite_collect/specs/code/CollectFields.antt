@@ -5,7 +5,7 @@ use Rattle.suite_collect.specs.declared.widening.Widening.{Widening}
 use Rattle.suite_collect.specs.Telling.{newest}
 use Rattle.suite_collect.specs.Collecting as spec
 use Rattle.suite_collect.specs.Collecting.{Collecting, Collector, counted, wanted, all_told}
-use Rattle.suite_collect.specs.code.Dues.{Due, Standing, tally_in, tally_by, IsKnown}
+use Rattle.suite_collect.specs.code.Dues.{Due, due_in, due_by, IsKnown}
 
 abbrev pub widening_of : Widening → spec.Widening
 widening_of widening = record { votes = widening.votes; told = widening.since.items }
@@ -22,15 +22,12 @@ collecting_of fields = record {
   };
 }
 
--- what is due of a collector, and the votes that it has
-abbrev pub tally_of : Collector → Standing
-tally_of c = tally_by (counted c) (wanted c) (all_told c)
-
+-- what is due of a collector
 abbrev pub due_of : Collector → Due
-due_of c = (tally_of c).due
+due_of c = due_by (counted c) (wanted c) (all_told c)
 
 pub record IsSummed (fields : Inside) : Type 0 where
   pub newest : unwrap_or fields.newer fields.start ≡ newest fields.start fields.told
   pub all : IfSome fields.widening (λ widening. widening.all ≡ widening.since.items ++ fields.told)
-  pub tally : tally_in fields.tally ≡ tally_of (collecting_of fields).collector
-  pub known : IsKnown fields.tally.due
+  pub due : due_in fields.due ≡ due_of (collecting_of fields).collector
+  pub known : IsKnown fields.due

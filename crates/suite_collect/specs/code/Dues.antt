@@ -6,7 +6,6 @@ use Rattle.suite_prefix.specs.declared.lock_mode.LockMode.{LockMode}
 use Rattle.suite_collect.specs.declared.told.Told.{Told}
 use Rattle.suite_collect.specs.declared.due.Due.{Due as Coded}
 use Rattle.suite_collect.specs.declared.due.Due.TheVariants as coded
-use Rattle.suite_collect.specs.declared.due.Standing.{Standing as CodedTally}
 use Rattle.suite_collect.specs.Telling.{holds, has_refused}
 use Rattle.suite_collect.specs.Collecting.{needed_of}
 
@@ -29,26 +28,12 @@ abbrev pub due_left : ℕ → ℕ → Option ℕ → Due
 due_left got needed (Some server) = Ask server
 due_left got needed None = Short got needed
 
-abbrev pub due_among : Configuration → LockMode → (ℕ → Bool) → (ℕ → Bool) → Due
-due_among votes wanted held refused =
-    let got = votes_in votes.reps held in
+abbrev pub due_by : Configuration → LockMode → List Told → Due
+due_by votes wanted told =
+    let got = votes_in votes.reps (holds wanted told) in
     if nat_le (needed_of wanted votes) got
     then Current
-    else due_left got (needed_of wanted votes) (option_map (λ rep. rep.0) (find (is_left_by held refused) votes.reps))
-
--- what is due, and the votes of those that hold what is wanted
-pub record Standing : Type 0 where
-  pub got : ℕ
-  pub due : Due
-
-abbrev pub tally_in : CodedTally → Standing
-tally_in tally = record { got = tally.got; due = due_in tally.due }
-
-abbrev pub tally_among : Configuration → LockMode → (ℕ → Bool) → (ℕ → Bool) → Standing
-tally_among votes wanted held refused = record { got = votes_in votes.reps held; due = due_among votes wanted held refused }
-
-abbrev pub tally_by : Configuration → LockMode → List Told → Standing
-tally_by votes wanted told = tally_among votes wanted (holds wanted told) (has_refused told)
+    else due_left got (needed_of wanted votes) (option_map (λ rep. rep.0) (find (is_left_by (holds wanted told) (has_refused told)) votes.reps))
 
 -- a server that is asked is one of the service
 abbrev pub IsKnown : Coded → Type 0

@@ -1,5 +1,4 @@
-use Rattle.suite_collect.specs.code.Sayings.{told_of}
 use Rattle.suite_collect.proofs.heard.Heard.add_lock.Given as goal
 
 abbrev pub ghost-and : goal.ghost-and
-ghost-and a = told_of a._from.now
+ghost-and a = a._from.now
