@@ -7,6 +7,7 @@ program tells at the end, an agent has to have gathered the locks that replies g
 has to be told in the objects too. Without what is told in full besides, an event has to be the program's; the jobs
 that begin have to be those of the trace, and so have the paths. Status 1 where something differs.
 """
+import importlib.util
 import json
 import os
 import re
@@ -26,53 +27,15 @@ from trace import json_events, states
 
 # Words of an ending beside its parts.
 WORDS = ("op", "suite", "wants", "by", "got", "of", "server", "holder")
-TYPES = {"object": dict, "array": list, "string": str, "integer": int, "boolean": bool}
 
 
-class Schema:
-    """A JSON Schema, of whose words it knows those that docs/events.schema.json has."""
-
-    def __init__(self, whole: dict) -> None:
-        self.whole = whole
-
-    def refused(self, value: Any, rule: dict, where: str = "$") -> str | None:
-        """Where a value breaks a rule, and how; nothing, where it keeps it."""
-        if "$ref" in rule:
-            return self.refused(value, self.whole["$defs"][rule["$ref"].rsplit("/", 1)[1]], where)
-        kind = rule.get("type")
-        if kind and (not isinstance(value, TYPES[kind]) or kind == "integer" and isinstance(value, bool)):
-            return f"{where} is no {kind}"
-        if "const" in rule and value != rule["const"] or "enum" in rule and value not in rule["enum"]:
-            return f"{where} is {value!r}"
-        if "pattern" in rule and not re.search(rule["pattern"], value):
-            return f"{where} is {value!r}"
-        if not rule.get("minimum", 0) <= (value if isinstance(value, int) else 0) <= rule.get("maximum", 1 << 64):
-            return f"{where} is {value}"
-        parts = self.of_object(value, rule, where) if isinstance(value, dict) else self.of_list(value, rule, where)
-        return next(filter(None, parts), None) or self.of_one(value, rule, where)
-
-    def of_object(self, value: dict, rule: dict, where: str) -> Iterator[str | None]:
-        yield from (f"{where} lacks {name}" for name in rule.get("required", ()) if name not in value)
-        for name, others in rule.get("dependentRequired", {}).items():
-            lacking = [other for other in others if name in value and other not in value]
-            yield from (f"{where} has {name} and lacks {other}" for other in lacking)
-        rest = rule.get("additionalProperties", True)
-        for name, part in value.items():
-            known = rule.get("properties", {}).get(name)
-            if known is None and rest is False:
-                yield f"{where} has {name}"
-            elif known is not None or isinstance(rest, dict):
-                yield self.refused(part, known if known is not None else rest, f"{where}.{name}")
-
-    def of_list(self, value: object, rule: dict, where: str) -> Iterator[str | None]:
-        if isinstance(value, list) and "items" in rule:
-            yield from (self.refused(part, rule["items"], f"{where}[{place}]") for place, part in enumerate(value))
-
-    def of_one(self, value: object, rule: dict, where: str) -> str | None:
-        refusals = [self.refused(value, one, where) for one in rule.get("oneOf", ())]
-        if refusals and refusals.count(None) != 1:
-            return f"{where} is of {refusals.count(None)} forms: {'; '.join(filter(None, refusals))}"
+def schema() -> Any:
+    """The schema of events, which refuses those that break it; none where there is no library for it, which is said."""
+    if not importlib.util.find_spec("jsonschema"):
+        print("skipped: no python3-jsonschema, so no event is held against docs/events.schema.json")
         return None
+    library = importlib.import_module("jsonschema")
+    return library.Draft202012Validator(json.loads(text_of("docs", "events.schema.json")))
 
 
 def scripts() -> Iterator[tuple[str, str]]:
@@ -224,14 +187,14 @@ def typed(tally: Tally) -> None:
 
 
 def every_script(tally: Tally) -> None:
-    schema = Schema(json.loads(text_of("docs", "events.schema.json")))
+    rules = schema()
     for name, script in scripts():
         bare_lines, fuller = show.events_of(script.encode()), json_events.Fuller()
         events = [json.loads(fuller.of(line.encode())) for line in bare_lines]
         for line, event in zip(bare_lines, events):
             tally.holds(bare(json.loads(json.dumps(event))) == json.loads(line), name, "another event", line)
-            said = schema.refused(event, schema.whole)
-            tally.holds(said is None, name, "event", event.get("event"), said)
+            fault = next(rules.iter_errors(event), None) if rules else None
+            tally.holds(fault is None, name, "event", event.get("event"), fault)
         tally.holds([event["event"] for event in events] == [*range(len(events))], name, "numbers of events")
         run = states.Retold(events[0])
         for event in events[1:-1]:
