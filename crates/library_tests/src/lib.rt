@@ -1,8 +1,8 @@
 //! Tests of the libraries, a module for each, through what a library shows. They are worked examples, printed text,
-//! calls that succeed while there is memory, and callers that are proved against its contracts (`uses`). A crate
-//! with tests is proved a second time for them, so they stand here.
+//! calls that succeed while there is memory, and callers of laws that are proved against their contracts (`uses`). A
+//! crate with tests is proved a second time for them, so they stand here.
 //!
-//! **Files**: `checks`, `fixtures` (what tests share); `streams`, `words`, `scripts`, `faults`, `outcomes`;
+//! **Files**: `checks`, `fixtures` (what tests share); `streams`, `faults`, `outcomes`;
 //! `lists`, `list_text`, `votes`, `maps`, `contents`, `copies`, `old_copies`; `operations`, `table`, `executor`;
 //! `server`, `shelves`, `caches`.
 #![tactic(auto)]
@@ -34,8 +34,6 @@ mod operations;
 #[cfg(test)]
 mod outcomes;
 #[cfg(test)]
-mod scripts;
-#[cfg(test)]
 mod server;
 #[cfg(test)]
 mod shelves;
@@ -45,5 +43,3 @@ mod streams;
 mod table;
 #[cfg(test)]
 mod votes;
-#[cfg(test)]
-mod words;
