@@ -1,8 +1,8 @@
 //! Worked copies in form 2, damaged ones, and the largest one.
 
-use crate::checks::{bytes, case, damaged, had, holds, is_cloned, push, shows};
-use crate::fixtures::{entries, file, folder_of, many_entries, most_listed, prefix, votes};
-use acl_core::{Acl, Lists};
+use crate::checks::{add, bytes, case, damaged, had, holds, is_cloned, push, shows};
+use crate::fixtures::{entries, file, folder_of, most_listed, prefix, votes};
+use acl_core::{Acl, Entry, Lists, Tag};
 use std::process::Abort;
 use suite_prefix::{Content, PrefixKind, Replica, decode, encode};
 use vote_core::Votes;
@@ -41,7 +41,10 @@ fn is_spelled(rt: &(impl Abort + AllocGlobal), copy: &Replica, bytes: &[u8]) {
 
 #[test]
 fn the_worked_copy_has_its_bytes(rt: HostRuntime) {
-    is_spelled(&rt, &file(&rt, 1, 1, b"hi"), &bytes(&rt, WORKED));
+    let copy = file(&rt, 1, 1, b"hi");
+    copy.prefix.fits();
+    copy.fits();
+    is_spelled(&rt, &copy, &bytes(&rt, WORKED));
 }
 
 /// Bytes of a copy are damaged by each line, which has a place and another byte there, and read so then.
@@ -72,7 +75,12 @@ fn damaged_copies_are_refused_by_their_fault(rt: HostRuntime) {
 
 /// The list of 128 entries: 62 users, 62 groups, and the four others.
 fn longest_list(rt: &(impl Abort + AllocGlobal)) -> Acl {
-    had(rt, Acl::from_vec(many_entries(rt, 62, 62)))
+    let mut longest = entries(rt, "u:6 g:4 m:7 o:0");
+    for id in 0..62 {
+        add(rt, &mut longest, Entry::from_digit(Tag::User(id), 7));
+        add(rt, &mut longest, Entry::from_digit(Tag::Group(id), 5));
+    }
+    had(rt, Acl::from_vec(longest))
 }
 
 /// 60 of the bytes of a name.

@@ -44,18 +44,6 @@ pub(crate) fn entries(rt: &(impl Abort + AllocGlobal), text: &str) -> Vec<Entry>
     entries
 }
 
-/// The four single entries, and so many of users and of groups.
-pub(crate) fn many_entries(rt: &(impl Abort + AllocGlobal), users: u32, groups: u32) -> Vec<Entry> {
-    let mut many = entries(rt, "u:6 g:4 m:7 o:0");
-    for user in 0..users {
-        add(rt, &mut many, Entry::from_digit(Tag::User(user), 7));
-    }
-    for group in 0..groups {
-        add(rt, &mut many, Entry::from_digit(Tag::Group(group), 5));
-    }
-    many
-}
-
 /// Votes of servers that are listed from 0, as `1,1,1/2/2`; a server that is not listed is a hyphen.
 pub(crate) fn votes(rt: &impl Abort, text: &str) -> Votes {
     had(rt, read_votes(MAX_SERVERS, text.as_bytes()))

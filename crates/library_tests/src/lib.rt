@@ -4,7 +4,7 @@
 //!
 //! **Files**: `checks`, `fixtures` (what tests share); `streams`, `faults`, `outcomes`;
 //! `lists`, `list_text`, `votes`, `maps`, `contents`, `copies`, `old_copies`; `operations`, `table`, `executor`;
-//! `server`, `shelves`, `caches`.
+//! `server`, `shelves`, `caches`, `laws`.
 #![tactic(auto)]
 
 #[cfg(test)]
@@ -21,6 +21,8 @@ mod executor;
 mod faults;
 #[cfg(test)]
 mod fixtures;
+#[cfg(test)]
+mod laws;
 #[cfg(test)]
 mod list_text;
 #[cfg(test)]

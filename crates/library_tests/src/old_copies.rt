@@ -31,7 +31,7 @@ fn a_copy_in_form_1_is_read_and_written_in_form_2(rt: HostRuntime) {
     holds(&rt, copy == file(&rt, 1, 1, b"hi"), "the copy");
 }
 
-/// The faults that form 2 has not at these places.
+/// Faults of the first byte and at places that form 2 has elsewhere, and another copy.
 static DAMAGED: &str = "
 0 0 = Some(Fault(BadTag))
 0 3 = Some(Fault(BadTag))

@@ -156,5 +156,6 @@ static ONE_ITEM: &str =
 fn a_denial_is_kept_once(rt: HostRuntime) {
     let mut server = server(&rt);
     play(&rt, &mut server, DENIED);
+    server.copies_are_sound();
     shows(&rt, server.audit(), ONE_ITEM, "the audit");
 }

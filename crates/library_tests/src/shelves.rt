@@ -18,6 +18,7 @@ fn a_shelf_drops_each_value_once(rt: HostRuntime) {
         drop(shelf.put(site, had(&rt, value.clone())));
     }
     held(&rt, &value, 4, "put");
+    holds(&rt, shelf.len_of(7) == 1, "one of site 7");
     drop(shelf.take(0));
     held(&rt, &value, 3, "taken");
     drop(shelf);

@@ -1,6 +1,6 @@
 //! A worked example: quorums of servers with unequal votes.
 
-use crate::checks::{case, had, shows};
+use crate::checks::{case, had, holds, shows};
 use crate::fixtures::set_of;
 use std::process::Abort;
 use vote_core::Votes;
@@ -30,6 +30,10 @@ fn collects(rt: &(impl Abort + AllocGlobal), votes: &Votes, line: &str) {
 fn a_quorum_is_by_votes_and_not_by_members(rt: HostRuntime) {
     let listed = [(3, 0), (0, 2), (1, 1), (2, 1)];
     let votes = had(&rt, Votes::new(4, &listed, 2, 3));
+    votes.reads_meet_writes();
+    votes.writes_meet();
+    let votes_alone = votes.is_voting_member(0) && !votes.is_voting_member(3);
+    holds(&rt, votes_alone, "who has a vote");
     for line in COLLECTED.lines().skip(1) {
         collects(&rt, &votes, line);
     }
