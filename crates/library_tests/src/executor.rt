@@ -199,7 +199,8 @@ fn gone_on(
 /// Executes from nothing, as transaction 2.
 fn executed(rt: &(impl Abort + AllocGlobal), known: &Known<'_>, asked: &Asked) -> Outcome {
     unbegun_is_reached();
-    gone_on(rt, known, 2, asked, &mut Progress::new(rt.alloc()))
+    let mut progress = Progress::new(rt.alloc());
+    gone_on(rt, known, 2, asked, &mut progress)
 }
 
 /// Executes, and meets each need, which is added to a text. No transaction of the tests needs more than 20

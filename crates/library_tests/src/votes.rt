@@ -32,8 +32,8 @@ fn a_quorum_is_by_votes_and_not_by_members(rt: HostRuntime) {
     let votes = had(&rt, Votes::new(4, &listed, 2, 3));
     votes.reads_meet_writes();
     votes.writes_meet();
-    let votes_alone = votes.is_voting_member(0) && !votes.is_voting_member(3);
-    holds(&rt, votes_alone, "who has a vote");
+    let is_so = votes.is_voting_member(0) && !votes.is_voting_member(3);
+    holds(&rt, is_so, "who has a vote");
     for line in COLLECTED.lines().skip(1) {
         collects(&rt, &votes, line);
     }
