@@ -31,7 +31,7 @@ fn read(rt: &(impl Abort + AllocGlobal), text: &[u8]) -> Result<Lists, TextFault
     }
 }
 
-/// Texts, each with its lists or its fault: each that is told in words. Rows have many more.
+/// Texts, each with its lists or its fault in words. Rows have many more.
 static TEXTS: &str = "
 u::rw,u:1001:r,g::r,o::- = the entries are no valid list: there is an entry for a user or a group, and no mask
 u::rw,u:lisa:r,g::r,o:,m:r = user::rw-,user:1001:r--,group::r--,mask::r--,other::---
@@ -40,7 +40,9 @@ u:4294967296:r = item 1 has a number that is too big
 u:4294967296:z = item 1 is no entry
 u::-r-w-,g::---,o:: = user::rw-,group::---,other::---
 d:o:r,default : u : : rw , o:, d:g::,g::,u::r = user::r--,group::---,other::---,default:user::rw-,default:group::---,default:other::r--
-u::r,g::r,o::r,d:o::r = the entries of the default list are no valid list: there is no entry for the owner";
+u::r,g::r,o::r,d:o::r = the entries of the default list are no valid list: there is no entry for the owner
+u::r,g::r,o::r,d:u::r,d:g::r,d:o::r,d:m:r,d:m:r = the entries of the default list are no valid list: an entry that can stand only once stands twice
+d:u::r,d:u::r,u::r = the entries are no valid list: there is no entry for the file's group";
 
 /// Lists are written so, in a text that spells them.
 fn are_written(
