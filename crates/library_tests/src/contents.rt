@@ -1,4 +1,4 @@
-//! Each public call once, and what a change leaves to those that share.
+//! Folders, lists of their names and contents, and what a change leaves to those that share.
 
 mod uses;
 

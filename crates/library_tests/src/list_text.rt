@@ -1,4 +1,4 @@
-//! Worked examples, each fault in words, and each public call once.
+//! Worked examples, faults in words, and lists that are written.
 
 use crate::checks::{case, had, holds, printed, same, tells};
 use crate::fixtures::lists;

@@ -102,7 +102,8 @@ fn hear(rt: &impl Abort, collect: &mut Collect, reply: &Reply) -> Hearing {
 fn hears(rt: &impl Abort, talk: &mut Talk, reply: &Reply) {
     match hear(rt, &mut talk.collect, reply) {
         Hearing::Quorum(last) => tell(rt, talk, last),
-        heard => assert!(rt; !matches!(heard, Hearing::Lost)),
+        Hearing::Asks | Hearing::Short => {}
+        Hearing::Lost => assert!(rt; false, "lost"),
     }
 }
 

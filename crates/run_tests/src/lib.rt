@@ -1,6 +1,6 @@
-//! Tests of runs: of the collector, agents, worlds, servers under locks, agents in threads, and what is promised
-//! and certified of all that. They look at what these show: events, talks, replies, and that calls succeed while
-//! there is memory. What a script can say is a row of `rows`. A crate with tests is proved a second time for them,
+//! Tests of runs: of the collector, worlds, servers under locks, agents in threads, and what is promised and
+//! certified of all that. They look at what these show: events, talks, replies, and that calls succeed while there
+//! is memory. What a script can say is a row of `rows`. A crate with tests is proved a second time for them,
 //! so they stand here.
 //!
 //! **Files**: `fixtures`, `events`, `ends` (what tests share); `collector`, `worlds`, `promises`;
