@@ -1,4 +1,4 @@
-//! Folders, lists of their names and contents, and what a change leaves to those that share.
+//! Names, folders, lists of their names and contents, and what a change leaves to those that share.
 
 mod uses;
 
@@ -7,7 +7,27 @@ use crate::checks::{had, holds, is_cloned, number, parts, shows};
 use crate::fixtures::{content, file_bytes, folder_of, name};
 use sorted_map::RoomyMap;
 use std::process::Abort;
-use suite_content::{Content, FileBytes, FolderNames, Kind, Name, NameList};
+use suite_content::{Content, FileBytes, FolderNames, Kind, MAX_NAME, Name, NameList};
+
+/// 65 bytes.
+static TOO_LONG: &str = "xxxxxxxxxxxxxxxxxxxxxxxxxxxxxxxxxxxxxxxxxxxxxxxxxxxxxxxxxxxxxxxxx";
+
+/// These bytes are a name's, or not.
+fn is_name(rt: &impl Abort, text: &str, want: bool) {
+    holds(rt, Name::new(text.as_bytes()).is_some() == want, text);
+}
+
+#[test]
+fn names_are_1_to_64_portable_bytes(rt: HostRuntime) {
+    for good in "a Z 0 - _ ... .a a.B_c-9".split(' ') {
+        is_name(&rt, good, true);
+    }
+    for bad in "|.|..|a b|a/b|a,b|a:b|caf\u{e9}|a\0".split('|') {
+        is_name(&rt, bad, false);
+    }
+    is_name(&rt, TOO_LONG.get(..MAX_NAME).unwrap_or_default(), true);
+    is_name(&rt, TOO_LONG, false);
+}
 
 /// Changes a folder: takes a name out, or gives it a number, as `b=7`, where it had another number or none.
 fn change(rt: &(impl Abort + AllocGlobal), folder: &mut FolderNames, text: &str, want: &str) {

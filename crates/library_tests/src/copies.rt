@@ -1,10 +1,11 @@
-//! Worked copies in form 2, damaged ones, and the largest one.
+//! Worked copies in form 2, damaged and invalid ones, and the largest one.
 
 use crate::checks::{add, bytes, case, damaged, had, holds, is_cloned, push, shows};
-use crate::fixtures::{entries, file, folder_of, most_listed, prefix, votes};
+use crate::fixtures::{content, entries, file, folder_of, most_listed, prefix, votes};
 use acl_core::{Acl, Entry, Lists, Tag};
 use std::process::Abort;
-use suite_prefix::{Content, PrefixKind, Replica, decode, encode};
+use suite_content::Kind;
+use suite_prefix::{Content, Prefix, PrefixKind, Replica, decode, encode};
 use vote_core::Votes;
 
 /// A file of version 1 of user 1000 and group 100, list of mode 644, three votes, content `hi`.
@@ -73,14 +74,13 @@ fn damaged_copies_are_refused_by_their_fault(rt: HostRuntime) {
     are_refused(&rt, WORKED, DAMAGED);
 }
 
-/// The list of 128 entries: 62 users, 62 groups, and the four others.
-fn longest_list(rt: &(impl Abort + AllocGlobal)) -> Acl {
-    let mut longest = entries(rt, "u:6 g:4 m:7 o:0");
-    for id in 0..62 {
-        add(rt, &mut longest, Entry::from_digit(Tag::User(id), 7));
-        add(rt, &mut longest, Entry::from_digit(Tag::Group(id), 5));
+/// A list of so many entries of users, and the four single ones.
+pub(crate) fn list_of(rt: &(impl Abort + AllocGlobal), users: u32) -> Acl {
+    let mut listed = entries(rt, "u:6 g:4 m:7 o:0");
+    for user in 0..users {
+        add(rt, &mut listed, Entry::from_digit(Tag::User(user), 7));
     }
-    had(rt, Acl::from_vec(longest))
+    had(rt, Acl::from_vec(listed))
 }
 
 /// 60 of the bytes of a name.
@@ -99,8 +99,8 @@ fn max_names(rt: &(impl Abort + AllocGlobal)) -> Content {
 #[test]
 fn the_largest_copy_is_read_again(rt: HostRuntime) {
     let mut prefix = prefix(&rt, 1, PrefixKind::Folder);
-    prefix.acl = Lists::from(longest_list(&rt));
-    prefix.acl.default = Some(longest_list(&rt));
+    prefix.acl = Lists::from(list_of(&rt, 124));
+    prefix.acl.default = Some(list_of(&rt, 124));
     prefix.votes = had(&rt, Votes::new(32, &most_listed(&rt), 1, 8160));
     let copy = Replica {
         prefix,
@@ -139,4 +139,45 @@ fn names_stand_in_byte_order_and_default_lists_behind_others(rt: HostRuntime) {
     let default = default.expect(&rt, "a default list");
     holds(&rt, default.entries().len() == 5, "its entries");
     is_cloned(&rt, copy, folder(&rt), "a copy");
+}
+
+/// Whether a prefix and its copy are valid.
+fn are_valid(rt: &(impl Abort + AllocGlobal), copy: &Replica, want: &str, about: &str) {
+    let are = (copy.prefix.is_valid(), copy.is_valid());
+    shows(rt, are, want, about);
+}
+
+/// What was never made, with its content's version.
+fn absent(rt: &(impl Abort + AllocGlobal), dver: u64) -> Replica {
+    let votes = votes(rt, "1,1,1/2/2");
+    Replica {
+        prefix: had(rt, Prefix::absent(rt.alloc(), votes)),
+        dver,
+        content: content(rt, b""),
+    }
+}
+
+#[test]
+fn what_was_never_made_has_one_form(rt: HostRuntime) {
+    let mut copy = absent(&rt, 1);
+    are_valid(&rt, &copy, "(true, false)", "content");
+    copy.dver = 0;
+    are_valid(&rt, &copy, "(true, true)", "never made");
+    copy.prefix.pver = 1;
+    are_valid(&rt, &copy, "(false, false)", "a version");
+    copy.prefix.kind = PrefixKind::File;
+    are_valid(&rt, &copy, "(true, true)", "a file");
+    copy.prefix.kind = PrefixKind::Folder;
+    are_valid(&rt, &copy, "(true, false)", "a folder");
+}
+
+#[test]
+fn a_default_list_is_a_folders(rt: HostRuntime) {
+    let mut copy = file(&rt, 1, 1, b"hi");
+    copy.prefix.acl.default = Some(folder_list(&rt));
+    are_valid(&rt, &copy, "(false, false)", "a file");
+    copy.prefix.kind = PrefixKind::Folder;
+    are_valid(&rt, &copy, "(true, false)", "a folder");
+    copy.content = Content::empty(rt.alloc(), Kind::Folder);
+    are_valid(&rt, &copy, "(true, true)", "its content");
 }

@@ -1,8 +1,9 @@
 //! Copies in form 1: it is read, and what is written is form 2.
 
 use crate::checks::{bytes, had, holds};
-use crate::copies::{WORKED, are_refused, written};
-use crate::fixtures::file;
+use crate::copies::{WORKED, are_refused, list_of, written};
+use crate::fixtures::{file, votes};
+use acl_core::Lists;
 use std::process::Abort;
 use suite_prefix::{Form, StoredCopy, decode};
 
@@ -43,6 +44,18 @@ static DAMAGED: &str = "
 #[test]
 fn damaged_copies_in_form_1_are_refused_by_their_fault(rt: HostRuntime) {
     are_refused(&rt, OLD, DAMAGED);
+}
+
+/// Whether a form can hold a list of so many entries of users, and the four single ones.
+fn can_hold(rt: &(impl Abort + AllocGlobal), form: Form, users: u32) -> bool {
+    form.holds(&Lists::from(list_of(rt, users)), &votes(rt, "1,1,1/2/2"))
+}
+
+#[test]
+fn form_1_has_at_most_64_entries(rt: HostRuntime) {
+    holds(&rt, can_hold(&rt, Form::One, 60), "64 entries");
+    holds(&rt, !can_hold(&rt, Form::One, 61), "65 entries");
+    holds(&rt, can_hold(&rt, Form::Two, 61), "form 2");
 }
 
 /// The worked copy as it is kept in form 1, or in the form that is written.
