@@ -96,22 +96,13 @@ pub(crate) fn bytes(rt: &(impl Abort + AllocGlobal), hex: &str) -> Vec<u8> {
     bytes
 }
 
-/// Bytes with another one at a place.
-pub(crate) fn with_byte(
-    rt: &(impl Abort + AllocGlobal),
-    bytes: &[u8],
-    place: usize,
-    byte: u8,
-) -> Vec<u8> {
-    let mut bytes = had(rt, Vec::from_slice(rt.alloc(), bytes));
+/// The bytes of a text with another byte: the place and the byte, as `0 7`.
+pub(crate) fn damaged(rt: &(impl Abort + AllocGlobal), hex: &str, given: &str) -> Vec<u8> {
+    let (place, byte, _, _) = parts(given, ' ');
+    let (place, byte) = (number::<usize>(rt, place), number::<u8>(rt, byte));
+    let mut bytes = bytes(rt, hex);
     if let Some(at) = bytes.get_mut(place) {
         *at = byte;
     }
     bytes
-}
-
-/// The bytes of a text with another byte: the place and the byte, as `0 7`.
-pub(crate) fn damaged(rt: &(impl Abort + AllocGlobal), hex: &str, given: &str) -> Vec<u8> {
-    let (place, byte, _, _) = parts(given, ' ');
-    with_byte(rt, &bytes(rt, hex), number(rt, place), number(rt, byte))
 }

@@ -1,39 +1,32 @@
-//! Each public call once, the bytes of a name, and what a change leaves to those that share.
+//! Names, folders, lists of their names and contents, and what a change leaves to those that share.
 
 mod uses;
 
 use self::uses::{Row, change_and_back, has, lengths, link, put_and_take, take_and_put, unlink};
 use crate::checks::{had, holds, is_cloned, number, parts, shows};
-use crate::fixtures::{content, file_bytes, folder_of, long_bytes, name};
+use crate::fixtures::{content, file_bytes, folder_of, name};
 use sorted_map::RoomyMap;
 use std::process::Abort;
-use suite_content::{
-    Content, FileBytes, FolderNames, Kind, MAX_CONTENT, MAX_NAME, MAX_NAMES, Name, NameList,
-};
+use suite_content::{Content, FileBytes, FolderNames, Kind, MAX_NAME, Name, NameList};
 
 /// 65 bytes.
 static TOO_LONG: &str = "xxxxxxxxxxxxxxxxxxxxxxxxxxxxxxxxxxxxxxxxxxxxxxxxxxxxxxxxxxxxxxxxx";
 
-/// These bytes are a name's.
-fn is_name(rt: &impl Abort, text: &str) {
-    holds(rt, name(rt, text).as_bytes() == text.as_bytes(), text);
-}
-
-/// These bytes are no name's.
-fn is_no_name(rt: &impl Abort, text: &str) {
-    holds(rt, Name::new(text.as_bytes()).is_none(), text);
+/// These bytes are a name's, or not.
+fn is_name(rt: &impl Abort, text: &str, want: bool) {
+    holds(rt, Name::new(text.as_bytes()).is_some() == want, text);
 }
 
 #[test]
 fn names_are_1_to_64_portable_bytes(rt: HostRuntime) {
     for good in "a Z 0 - _ ... .a a.B_c-9".split(' ') {
-        is_name(&rt, good);
+        is_name(&rt, good, true);
     }
     for bad in "|.|..|a b|a/b|a,b|a:b|caf\u{e9}|a\0".split('|') {
-        is_no_name(&rt, bad);
+        is_name(&rt, bad, false);
     }
-    is_name(&rt, TOO_LONG.get(..MAX_NAME).unwrap_or_default());
-    is_no_name(&rt, TOO_LONG);
+    is_name(&rt, TOO_LONG.get(..MAX_NAME).unwrap_or_default(), true);
+    is_name(&rt, TOO_LONG, false);
 }
 
 /// Changes a folder: takes a name out, or gives it a number, as `b=7`, where it had another number or none.
@@ -120,27 +113,6 @@ fn edits_undo_others(rt: HostRuntime) {
     had(&rt, link(&mut folder, b, 2));
     had(&rt, unlink(&mut folder, &b));
     shows(&rt, folder, "[(a, 1), (c, 2)]", "the folder");
-}
-
-/// Puts as many names as a folder has at most.
-fn fill(rt: &(impl Abort + AllocGlobal), folder: &mut FolderNames) {
-    for number in 0..MAX_NAMES as u64 {
-        holds(rt, !folder.is_full(), "room");
-        let text = had(rt, format!(in rt.alloc(); "n{number}"));
-        had(rt, folder.insert(name(rt, text.as_str()), number));
-    }
-}
-
-#[test]
-fn folders_have_1024_names_and_files_65536_bytes(rt: HostRuntime) {
-    let mut folder = FolderNames::new(rt.alloc());
-    fill(&rt, &mut folder);
-    holds(&rt, folder.is_full(), "no room");
-    let fits = long_bytes(&rt, MAX_CONTENT);
-    holds(&rt, !fits.is_too_long(), "room");
-    shows(&rt, had(&rt, fits.clone()).len(), "65536", "a clone");
-    let longer = long_bytes(&rt, MAX_CONTENT + 1);
-    holds(&rt, longer.is_too_long(), "no room");
 }
 
 /// A row holds this, and a clone of it is the same.

@@ -6,24 +6,17 @@
 
 ghost use Rattle.file_exec.specs.Reaching.{IsReached};
 
-use crate::checks::{add, debug, had, holds, number, parts, push, same, shows, tells};
+use crate::checks::{add, debug, had, holds, number, parts, push, same, tells};
 use crate::fixtures::{content, folder_of, lists, prefix, votes};
 use crate::operations::{Asked, read_asked};
 use crate::outcomes::{answers_words, refusal_words};
-use file_exec::{
-    Change, Known, KnownSuite, Need, Outcome, Progress, a_met_need_is_progress, changes_are_held,
-    changes_by_suite, changes_lead_on, done_is_the_tables, exec, exec_runs, goes_as_on_the_table,
-    is_the_transaction, more_known_changes_nothing, needs_what_is_unmet, opening_meets,
-    reached_stays, sets_what_is_held, taking_tells_more, unbegun_is_reached, unset_votes_stay,
-};
+use file_exec::{Change, Known, KnownSuite, Need, Outcome, Progress, exec, unbegun_is_reached};
 use file_ops::Service;
 use sorted_map::RoomyMap;
 use std::process::Abort;
 use suite_content::{Content, Kind};
 use suite_prefix::{LockMode, Prefix, PrefixKind};
 use vote_core::MAX_SERVERS;
-
-mod stages;
 
 // ---- a small service
 
@@ -203,15 +196,11 @@ fn gone_on(
     }
 }
 
-/// Executes from nothing. What then goes on from where it came comes to the same.
-fn executed(rt: &(impl Abort + AllocGlobal), known: &Known<'_>, t: u16, asked: &Asked) -> Outcome {
+/// Executes from nothing, as transaction 2.
+fn executed(rt: &(impl Abort + AllocGlobal), known: &Known<'_>, asked: &Asked) -> Outcome {
     unbegun_is_reached();
     let mut progress = Progress::new(rt.alloc());
-    let outcome = gone_on(rt, known, t, asked, &mut progress);
-    let again = gone_on(rt, known, t, asked, &mut progress);
-    let want = end_words(rt, &outcome);
-    tells(rt, end_words(rt, &again), want.as_str(), "gone on");
-    outcome
+    gone_on(rt, known, 2, asked, &mut progress)
 }
 
 /// Executes, and meets each need, which is added to a text. No transaction of the tests needs more than 20
@@ -220,12 +209,12 @@ fn met(rt: &(impl Abort + AllocGlobal), asked: &Asked, words: &mut String) -> Ou
     let suites = small_service(rt);
     let service = service(rt);
     let mut needs = Vec::new(rt.alloc());
-    let mut outcome = executed(rt, &known_after(rt, &service, &suites, &needs), 2, asked);
+    let mut outcome = executed(rt, &known_after(rt, &service, &suites, &needs), asked);
     for _ in 0..20 {
         if let Outcome::Need(need) = outcome {
             push(rt, words, need_words(rt, need).as_str());
             add(rt, &mut needs, need);
-            outcome = executed(rt, &known_after(rt, &service, &suites, &needs), 2, asked);
+            outcome = executed(rt, &known_after(rt, &service, &suites, &needs), asked);
         }
     }
     outcome
@@ -303,63 +292,4 @@ fn what_operations_ask_for(rt: HostRuntime) {
     play(&rt, ONE_BY_ONE);
     play(&rt, REFUSED);
     play(&rt, IN_TURN);
-}
-
-// ---- what was set, and the laws
-
-/// The row of a suite after what was set: owner, group, how many entries its list has, the quorums of its
-/// votes, and what it holds.
-fn has_row(rt: &(impl Abort + AllocGlobal), change: &Change, want: &str, about: &str) {
-    let row = &change.row;
-    let entries = row.acl().access.entries().len();
-    let (r, w) = (row.votes().r(), row.votes().w());
-    let numbers = (row.owner(), row.group(), entries, r, w);
-    shows(rt, (numbers, row.content()), want, about);
-}
-
-/// A transaction leaves this row of a suite; of one that it sets nothing of it tells nothing.
-fn leaves(rt: &(impl Abort + AllocGlobal), what: &str, suite: u64, want: &str) {
-    let mut needs = String::new(rt.alloc());
-    let asked = read_asked(rt, "1000 100", what);
-    let outcome = met(rt, &asked, &mut needs);
-    let told = match &outcome {
-        Outcome::Done(_, changes) => changes.get(suite),
-        _ => None,
-    };
-    match told {
-        Some(change) => has_row(rt, change, want, what),
-        None => holds(rt, want.is_empty(), what),
-    }
-}
-
-static HI: &str = "((1000, 100, 3, 1, 1), Bytes(FileBytes { shared: Some([104, 105]) }))";
-
-static YOYO: &str =
-    "((1000, 100, 3, 1, 1), Bytes(FileBytes { shared: Some([121, 111, 121, 111]) }))";
-
-#[test]
-fn rows_after(rt: HostRuntime) {
-    leaves(&rt, "setvotes /a 1/1/1", 1, HI);
-    leaves(&rt, "setvotes /a 1/1/1", 2, "");
-    leaves(&rt, "file /b 600 ; write /b 796f796f", 17, YOYO);
-}
-
-#[test]
-fn the_laws_are_called(_rt: HostRuntime) {
-    goes_as_on_the_table();
-    is_the_transaction();
-    sets_what_is_held();
-    needs_what_is_unmet();
-    exec_runs();
-    unbegun_is_reached();
-    reached_stays();
-    taking_tells_more();
-    done_is_the_tables();
-    changes_by_suite();
-    changes_are_held();
-    unset_votes_stay();
-    changes_lead_on();
-    more_known_changes_nothing();
-    a_met_need_is_progress();
-    opening_meets();
 }

@@ -28,6 +28,8 @@ static ORDER: &str =
 static DEFAULT: &str =
     "line 3: the entries of the default list are no valid list: there is no entry for all others";
 
+static MANY: &str = "line 3: the entries are no valid list: there are more than 128 entries";
+
 #[test]
 fn faults_of_lines_are_told(rt: HostRuntime) {
     let (item, entries) = (TextFault::Syntax(2), TextFault::Invalid(AclFault::NoOther));
@@ -41,6 +43,8 @@ fn faults_of_lines_are_told(rt: HostRuntime) {
     at_line_3(&rt, LineFault::List(entries), list);
     let default = TextFault::DefaultInvalid(AclFault::NoOther);
     at_line_3(&rt, LineFault::List(default), DEFAULT);
+    let many = TextFault::Invalid(AclFault::TooMany);
+    at_line_3(&rt, LineFault::List(many), MANY);
 }
 
 /// Votes with this fault print this behind what stands before all of them.

@@ -4,7 +4,7 @@ use crate::checks::{add, had, number, parts};
 use acl_core::{Acl, Entry, Lists, Mode, Tag};
 use std::process::Abort;
 use suite_content::{Content, FileBytes, FolderNames, Name};
-use suite_prefix::{Prefix, PrefixKind, Replica, Settings, SettingsFault, SharedPrefix};
+use suite_prefix::{Prefix, PrefixKind, Replica, Settings, SharedPrefix};
 use suite_script::read_votes;
 use vote_core::{MAX_SERVERS, ServerSet, Votes};
 
@@ -42,18 +42,6 @@ pub(crate) fn entries(rt: &(impl Abort + AllocGlobal), text: &str) -> Vec<Entry>
         add(rt, &mut entries, Entry::from_digit(tag(rt, name), digit));
     }
     entries
-}
-
-/// The four single entries, and so many of users and of groups.
-pub(crate) fn many_entries(rt: &(impl Abort + AllocGlobal), users: u32, groups: u32) -> Vec<Entry> {
-    let mut many = entries(rt, "u:6 g:4 m:7 o:0");
-    for user in 0..users {
-        add(rt, &mut many, Entry::from_digit(Tag::User(user), 7));
-    }
-    for group in 0..groups {
-        add(rt, &mut many, Entry::from_digit(Tag::Group(group), 5));
-    }
-    many
 }
 
 /// Votes of servers that are listed from 0, as `1,1,1/2/2`; a server that is not listed is a hyphen.
@@ -139,22 +127,11 @@ pub(crate) fn file(rt: &(impl Abort + AllocGlobal), pver: u64, dver: u64, bytes:
     }
 }
 
-/// Settings of so many servers, agents, bytes of a cache and of a site of it, and entries, or their first
-/// fault. The root has these lists, and a vote each of servers 0 to 2; some servers have it in form 1.
-pub(crate) fn judged(
-    rt: &impl Abort,
-    [servers, agents, budget, quota, slots]: [usize; 5],
-    acl: Lists,
-    old: ServerSet,
-) -> Result<Settings, SettingsFault> {
-    let votes = votes(rt, "1,1,1/2/2");
-    Settings::new(
-        servers, agents, votes, 1000, 100, acl, budget, quota, slots, old,
-    )
-}
-
-/// Settings of so many servers, with two agents and no caches. The root has the list of a mode.
+/// Settings of so many servers, with two agents and no caches. The root has the list of a mode, and a vote
+/// each of servers 0 to 2.
 pub(crate) fn settings(rt: &(impl Abort + AllocGlobal), servers: usize, digits: &str) -> Settings {
+    let votes = votes(rt, "1,1,1/2/2");
     let (acl, none) = (lists(rt, digits), ServerSet::empty());
-    had(rt, judged(rt, [servers, 2, 0, 0, 0], acl, none))
+    let made = Settings::new(servers, 2, votes, 1000, 100, acl, 0, 0, 0, none);
+    had(rt, made)
 }

@@ -1,10 +1,10 @@
 //! Tests of the libraries, a module for each, through what a library shows. They are worked examples, printed text,
-//! calls that succeed while there is memory, and callers that are proved against its contracts (`uses`). A crate
-//! with tests is proved a second time for them, so they stand here.
+//! calls that succeed while there is memory, and callers of laws that are proved against their contracts (`uses`). A
+//! crate with tests is proved a second time for them, so they stand here.
 //!
-//! **Files**: `checks`, `fixtures` (what tests share); `streams`, `words`, `scripts`, `faults`, `outcomes`;
+//! **Files**: `checks`, `fixtures` (what tests share); `streams`, `faults`, `outcomes`;
 //! `lists`, `list_text`, `votes`, `maps`, `contents`, `copies`, `old_copies`; `operations`, `table`, `executor`;
-//! `server`, `shelves`, `caches`.
+//! `server`, `shelves`, `caches`, `laws`.
 #![tactic(auto)]
 
 #[cfg(test)]
@@ -22,6 +22,8 @@ mod faults;
 #[cfg(test)]
 mod fixtures;
 #[cfg(test)]
+mod laws;
+#[cfg(test)]
 mod list_text;
 #[cfg(test)]
 mod lists;
@@ -34,8 +36,6 @@ mod operations;
 #[cfg(test)]
 mod outcomes;
 #[cfg(test)]
-mod scripts;
-#[cfg(test)]
 mod server;
 #[cfg(test)]
 mod shelves;
@@ -45,5 +45,3 @@ mod streams;
 mod table;
 #[cfg(test)]
 mod votes;
-#[cfg(test)]
-mod words;

@@ -1,9 +1,6 @@
 //! Each public call once, as lines of calls with what they answer.
 
-mod uses;
-
-use self::uses::{Planned, Row, Table};
-use crate::checks::{case, debug, had, holds, number, parts, shows, tells};
+use crate::checks::{case, debug, had, holds, number, parts, tells};
 use sorted_map::{RoomyMap, SortedMap};
 use std::process::Abort;
 
@@ -138,33 +135,5 @@ fn a_place_that_was_reserved_takes_no_memory(rt: HostRuntime) {
     for line in ROOMY_CALLS.lines().skip(1) {
         let (call, want) = case(&rt, line);
         tells(&rt, roomy_told(&rt, &mut map, room, call), want, line);
-    }
-}
-
-#[test]
-fn callers(rt: HostRuntime) {
-    let (small, large) = (Row { owner: 1, size: 2 }, Row { owner: 3, size: 40 });
-    let mut table = Table::new(rt.alloc());
-    had(&rt, table.put(8, small));
-    had(&rt, table.put(3, large));
-    shows(
-        &rt,
-        (table.give(8, 7), table.give(9, 7)),
-        "(true, false)",
-        "rows",
-    );
-    let taken = table.take(8).expect(&rt, "a row");
-    shows(&rt, (taken.owner, taken.size), "(7, 2)", "its new owner");
-}
-
-/// What was planned is finished, and nothing stood there.
-#[test]
-fn a_planned_row_is_put(rt: HostRuntime) {
-    let mut planned = Planned::new(rt.alloc());
-    if let Ok(()) = planned.plan() {
-        let before = planned.finish(4, Row { owner: 1, size: 2 });
-        holds(&rt, before.is_none(), "nothing there");
-    } else {
-        holds(&rt, false, "memory");
     }
 }

@@ -1,6 +1,6 @@
-//! Texts of many pieces, their limits, and a failure in mid-stream.
+//! The bytes of streams, and what is written before a write fails.
 
-use crate::checks::{case, had, holds, number, parts, shows};
+use crate::checks::{had, holds, shows};
 use byte_streams::{
     ByteIn, ByteOut, MemoryIn, MemoryOut, SystemIn, SystemOut, read_all, write_all,
 };
@@ -9,43 +9,6 @@ use std::process::Abort;
 /// So many bytes.
 fn text(rt: &(impl Abort + AllocGlobal), len: usize) -> Vec<u8> {
     had(rt, b"x".as_slice().repeat(rt.alloc(), len))
-}
-
-/// A text of a length is read up to a limit, where one read fails: so many bytes, or an error, and how many
-/// reads failed.
-fn reads(rt: &(impl Abort + AllocGlobal), line: &str) {
-    let (given, want) = case(rt, line);
-    let (len, limit, failing, _) = parts(given, ' ');
-    let text = text(rt, number(rt, len));
-    let mut stream = MemoryIn::failing_at(&text, number(rt, failing));
-    let limit = number::<u32>(rt, limit) as usize;
-    let told = match read_all(rt.alloc(), &mut stream, limit) {
-        Ok(bytes) => Ok(bytes.len()),
-        Err(error) => Err(error),
-    };
-    shows(rt, (told, stream.failed_reads()), want, line);
-}
-
-/// A text of 16,384 bytes is read in one piece, one of 100,000 in seven; another read finds the end.
-static READS: &str = "
-0 0 9 = (Ok(0), 0)
-3 3 9 = (Ok(3), 0)
-3 2 9 = (Err(TooLong), 0)
-16384 16384 9 = (Ok(16384), 0)
-16385 16384 9 = (Err(TooLong), 0)
-100000 100000 9 = (Ok(100000), 0)
-100000 99999 9 = (Err(TooLong), 0)
-100000 100000 0 = (Err(Failed), 1)
-100000 100000 3 = (Err(Failed), 1)
-100000 100000 7 = (Err(Failed), 1)
-100000 100000 8 = (Ok(100000), 0)
-100000 16384 2 = (Err(TooLong), 0)";
-
-#[test]
-fn streams_are_read_to_their_end(rt: HostRuntime) {
-    for line in READS.lines().skip(1) {
-        reads(&rt, line);
-    }
 }
 
 /// A slice is a reader that never fails.

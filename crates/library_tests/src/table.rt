@@ -1,14 +1,12 @@
 //! What no row of `crates/rows` can say: the denials that a table keeps, paths of no byte, transactions
-//! of no operation, the limits, servers that are not there, and that replies are shared. Each line has the
-//! caller, the operations and what is answered.
+//! of no operation, the limits, and servers that are not there. Each line has the caller, the operations and
+//! what is answered.
 
-mod uses;
-
-use crate::checks::{add, had, is_cloned, parts, push, shows, tells};
-use crate::fixtures::{file_bytes, settings, votes};
+use crate::checks::{had, parts, push, shows, tells};
+use crate::fixtures::settings;
 use crate::operations::{Asked, read_asked};
 use crate::outcomes::{answers_words, refusal_words};
-use file_ops::{Answer, Answers, ApplyError, Table};
+use file_ops::{Answers, ApplyError, Table};
 use std::process::Abort;
 
 /// Plays a transaction, and once more where memory was refused to it.
@@ -51,12 +49,13 @@ fn play(rt: &(impl Abort + AllocGlobal), servers: usize, digits: &str, text: &st
 static DENIED: &str = "
 1000 1000 | file /a 600 | answered made 1
 1000 1000 | read '' | refused F1 op 1
+1000 1000 | | refused F10 op 0
 2000 2000 | list / ; read /a | denied op 2 suite 1 wants r-- by other::
 3000 3000 | getvotes /a | denied op 1 suite 1 wants r-- by other::
 1000 1000 | read /b | refused F4 op 1";
 
 static DENIED_KEPT: &str =
-    "[AuditItem { t: 2, uid: 2000, op: 2, denial: Denial { suite: 1, wanted: Perms(4), decider: Other } }, AuditItem { t: 3, uid: 3000, op: 1, denial: Denial { suite: 1, wanted: Perms(4), decider: Other } }]";
+    "[AuditItem { t: 3, uid: 2000, op: 2, denial: Denial { suite: 1, wanted: Perms(4), decider: Other } }, AuditItem { t: 4, uid: 3000, op: 1, denial: Denial { suite: 1, wanted: Perms(4), decider: Other } }]";
 
 /// Folders, and transactions of several operations, which see one another and are taken back together.
 static TOGETHER: &str = "
@@ -76,12 +75,6 @@ static TOGETHER_KEPT: &str =
 fn operations_see_one_another(rt: HostRuntime) {
     play(&rt, 32, "755", TOGETHER, TOGETHER_KEPT);
 }
-
-/// A transaction has 1 to 8 operations.
-static COUNTED: &str = "
-1 1 | | refused F10 op 0
-1 1 | list / ; list / ; list / ; list / ; list / ; list / ; list / ; list / | answered list -; list -; list -; list -; list -; list -; list -; list -
-1 1 | list / ; list / ; list / ; list / ; list / ; list / ; list / ; list / ; list / | refused F10 op 0";
 
 /// A file has at most 65,536 bytes.
 static LENGTHS: &str = "
@@ -104,70 +97,16 @@ fn many_files(rt: &(impl Abort + AllocGlobal)) -> String {
 
 /// Votes of a server that is not there are refused before the path is walked, and behind a bad path.
 static UNKNOWN: &str = "
-1000 1000 | file /a 600 1,-,-,0/1/1 | refused F11 op 1
 1000 1000 | file /x/y 600 1,-,-,0/1/1 | refused F11 op 1
-1000 1000 | file /1/2/3/4/5/6/7/8 600 1,-,-,0/1/1 | refused F11 op 1
-1000 1000 | file / 600 1,-,-,0/1/1 | refused F1 op 1
 1000 1000 | file a 600 1,-,-,0/1/1 | refused F1 op 1
-1000 1000 | file /a/ 600 1,-,-,0/1/1 | refused F1 op 1
-2000 2000 | setvotes / 1,-,-,0/1/1 | refused F11 op 1
 2000 2000 | setvotes /x/y 1,-,-,0/1/1 | refused F11 op 1
 2000 2000 | setvotes a 1,-,-,0/1/1 | refused F1 op 1
-1000 1000 | file /a 600 -,-,1/1/1 | answered made 73
 1000 1000 | setvotes /x/y -,-,1/1/1 | refused F4 op 1";
-
-/// A default list of a file is refused behind the votes and before the path is walked where it is made, and
-/// behind the owner's rule where it is set.
-static MISPLACED: &str = "
-1000 1000 | file /a 600 ; folder /d 700 | answered made 1; made 2
-1000 1000 | file /x/y u::r,g::r,o::r,d:u::r,d:g::r,d:o::r | refused F12 op 1
-1000 1000 | file /b u::r,g::r,o::r,d:u::r,d:g::r,d:o::r 1,-,-,0/1/1 | refused F11 op 1
-1000 1000 | file b u::r,g::r,o::r,d:u::r,d:g::r,d:o::r | refused F1 op 1
-2000 2000 | setacl /a u::r,g::r,o::r,d:u::r,d:g::r,d:o::r | denied op 1 suite 1 wants --- by owner
-1000 1000 | setacl /a u::r,g::r,o::r,d:u::r,d:g::r,d:o::r | refused F12 op 1
-1000 1000 | setacl /d u::rwx,g::r,o::r,d:u::r,d:g::r,d:o::r ; getacl /d | answered set; acl user::rwx,group::r--,other::r--,default:user::r--,default:group::r--,default:other::r--
-1000 1000 | file /d/f 777 ; getacl /d/f | answered made 57; acl user::r--,group::r--,other::r--
-1000 1000 | file /d/g u::rwx,g::-,o::- ; getacl /d/g | answered made 65; acl user::rwx,group::---,other::---
-1000 1000 | folder /d/e 770 ; getacl /d/e | answered made 73; acl user::r--,group::r--,other::---,default:user::r--,default:group::r--,default:other::r--
-1000 1000 | folder /d/o u::rwx,g::-,o::- ; getacl /d/o | answered made 81; acl user::rwx,group::---,other::---";
-
-static MISPLACED_KEPT: &str =
-    "[AuditItem { t: 4, uid: 2000, op: 1, denial: Denial { suite: 1, wanted: Perms(0), decider: OwnerRule } }]";
 
 #[test]
 fn transactions_are_answered_or_refused(rt: HostRuntime) {
     play(&rt, 32, "755", DENIED, DENIED_KEPT);
-    play(&rt, 32, "755", COUNTED, "[]");
     play(&rt, 32, "777", LENGTHS, "[]");
     play(&rt, 32, "777", many_files(&rt).as_str(), "[]");
     play(&rt, 3, "777", UNKNOWN, "[]");
-    play(&rt, 3, "777", MISPLACED, MISPLACED_KEPT);
-}
-
-/// The reply of two bytes.
-fn read(rt: &(impl Abort + AllocGlobal)) -> Answer {
-    Answer::Read(file_bytes(rt, &[7, 8]))
-}
-
-/// The reply of votes.
-fn voted(rt: &(impl Abort + AllocGlobal)) -> Answer {
-    Answer::Votes(votes(rt, "1/1/1"))
-}
-
-/// One reply, or both.
-fn replies(rt: &(impl Abort + AllocGlobal), is_voted: bool) -> Answers {
-    let mut replies = Vec::new(rt.alloc());
-    add(rt, &mut replies, read(rt));
-    if is_voted {
-        add(rt, &mut replies, voted(rt));
-    }
-    had(rt, Answers::from_vec(replies))
-}
-
-#[test]
-fn replies_are_shared(rt: HostRuntime) {
-    is_cloned(&rt, read(&rt), voted(&rt), "a read");
-    is_cloned(&rt, voted(&rt), read(&rt), "votes");
-    let (both, one) = (replies(&rt, true), replies(&rt, false));
-    is_cloned(&rt, both, one, "both");
 }

@@ -53,7 +53,6 @@ pub(crate) enum Ask {
     Refused(u64),
     Resolve(u64),
     Crash,
-    Return,
 }
 
 fn poll(t: u64, mode: LockMode) -> Request {
@@ -78,7 +77,6 @@ fn request(ask: Ask) -> Request {
         Ask::Refused(t) => refused(t),
         Ask::Resolve(t) => Request::Resolve { t },
         Ask::Crash => Request::Crash,
-        Ask::Return => Request::Return,
     }
 }
 

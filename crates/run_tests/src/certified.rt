@@ -6,7 +6,6 @@ ghost use Rattle.std.specs.Prelude.{IfOk};
 ghost use Rattle.law_certified.specs.Histories.{ChangesAreMetInHistoryAt, FinishedBeforeInHistoryAt};
 
 use crate::fixtures::push;
-use byte_streams::MemoryOut;
 use file_ops::{Answers, Refusal};
 use law_certified::promise;
 use run_certify::{
@@ -15,7 +14,6 @@ use run_certify::{
 use server_lock::{Histories, History, Item};
 use std::alloc::{AllocError, Global};
 use std::process::Abort;
-use suite_cli::report;
 use suite_prefix::Settings;
 
 /// The histories of servers that served these items.
@@ -90,23 +88,6 @@ pub(crate) fn certified(
 ) -> Option<usize> {
     let decided = judged(rt, settings, histories, transcripts)?;
     Some(decided.as_slice().len())
-}
-
-/// The exit status and the last line that the program gives of it, where so many requests were served.
-pub(crate) fn reported(
-    rt: &(impl Abort + AllocGlobal),
-    settings: &Settings,
-    told: &(Histories, Transcripts),
-    steps: u64,
-) -> (u8, MemoryOut) {
-    let (histories, transcripts) = told;
-    let came = match judge(rt, settings, histories, transcripts) {
-        Ok(_) => Ok(steps),
-        Err(fault) => Err(fault),
-    };
-    let mut writer = MemoryOut::new(rt.alloc());
-    let status = report(rt.alloc(), came, &mut writer);
-    (status, writer)
 }
 
 /// What is certified, in words: `Mismatch`, or the decisions in their order.

@@ -74,7 +74,7 @@ fn talk_on(rt: &(impl Abort + AllocGlobal), mode: LockMode, place: &str) -> Talk
 }
 
 /// A reply as text: `held`, the version of the prefix, its votes, and the content's version; `busy` and a transaction;
-/// `down`; or `lost`.
+/// or `down`.
 fn reply(rt: &(impl Abort + AllocGlobal), text: &str) -> Reply {
     let mut parts = text.split(' ');
     let word = parts.next().unwrap_or_default();
@@ -86,7 +86,6 @@ fn reply(rt: &(impl Abort + AllocGlobal), text: &str) -> Reply {
             prefix: prefix(rt, number(rt, first), place),
             dver: number(rt, dver),
         },
-        "lost" => Reply::Lost,
         "busy" => Reply::Busy {
             holder: number(rt, first),
             prepared: false,
@@ -99,24 +98,12 @@ fn hear(rt: &impl Abort, collect: &mut Collect, reply: &Reply) -> Hearing {
     collect.hear(reply).ok().expect(rt, "memory")
 }
 
-/// What a reply to what is asked next comes to. `take` takes it, unless it is lost.
-fn takes(rt: &impl Abort, talk: &mut Talk, reply: &Reply) -> &'static str {
-    let taken = talk.alone.take(reply).ok().expect(rt, "memory");
-    let came = hears(rt, talk, reply);
-    assert!(rt; taken == (came != "lost"), "{came}");
-    came
-}
-
-/// What it comes to, heard. A lock that gives a quorum is told, too.
-fn hears(rt: &impl Abort, talk: &mut Talk, reply: &Reply) -> &'static str {
+/// Hears a reply to what was asked. A lock that gives a quorum is told, too.
+fn hears(rt: &impl Abort, talk: &mut Talk, reply: &Reply) {
     match hear(rt, &mut talk.collect, reply) {
-        Hearing::Lost => "lost",
-        Hearing::Asks => "asks",
-        Hearing::Short => "short",
-        Hearing::Quorum(last) => {
-            tell(rt, talk, last);
-            "quorum"
-        }
+        Hearing::Quorum(last) => tell(rt, talk, last),
+        Hearing::Asks | Hearing::Short => {}
+        Hearing::Lost => assert!(rt; false, "lost"),
     }
 }
 
@@ -133,10 +120,6 @@ fn tell(rt: &impl Abort, talk: &mut Talk, last: Told) {
         talk.source = Some(quorum_after(rt, &talk.collect, &last).source);
     }
     talk.collect.tell(last);
-}
-
-fn taken(rt: &(impl Abort + AllocGlobal), talk: &mut Talk, text: &str) -> &'static str {
-    takes(rt, talk, &reply(rt, text))
 }
 
 /// What is done with a collector: it is raised, widened to votes, or told a reply.
@@ -157,8 +140,10 @@ fn act(rt: &(impl Abort + AllocGlobal), talk: &mut Talk, text: &str) {
 
 /// It is told a reply that answers what it asked.
 fn goes_on(rt: &(impl Abort + AllocGlobal), talk: &mut Talk, text: &str) {
-    let came = taken(rt, talk, text);
-    assert!(rt; came != "lost", "{text}");
+    let reply = reply(rt, text);
+    hears(rt, talk, &reply);
+    let taken = talk.alone.take(&reply).ok().expect(rt, "memory");
+    assert!(rt; taken, "{text}");
 }
 
 /// What is asked, in words: of a poll the mode alone.
@@ -225,21 +210,6 @@ fn goes(rt: &(impl Abort + AllocGlobal), talk: &mut Talk, line: &str) {
 
 // ---- talks
 
-static ONE_DOWN: &str = "
-down -> Shared at 1
-held 1 here 4 -> Shared at 2
-held 2 here 3 -> prefix 2 content 4 of [1, 2] from Some(1)";
-
-static TWO_BUSY: &str = "
-held 1 here 1 -> Shared at 1
-busy 5 -> Shared at 2
-busy 6 -> 1 of 2 busy Some((1, 5))";
-
-static ALL_DOWN: &str = "
-down -> Shared at 1
-down -> Shared at 2
-down -> 0 of 2 busy None";
-
 /// The second member shows that the votes were moved away. Older prefixes change nothing.
 static MOVED: &str = "
 held 1 here 1 -> Shared at 1
@@ -276,9 +246,6 @@ fn a_quorum_is_had_under_the_newest_prefix(rt: HostRuntime) {
     current_is_a_quorum();
     current_has_a_source();
     short_has_none_left();
-    play(&rt, LockMode::Shared, ONE_DOWN);
-    play(&rt, LockMode::Shared, TWO_BUSY);
-    play(&rt, LockMode::Shared, ALL_DOWN);
     play(&rt, LockMode::Shared, MOVED);
 }
 
@@ -320,61 +287,4 @@ fn all_short_talks_go_as_another_program_says(rt: HostRuntime) {
     for row in TALKS.lines() {
         play_row(&rt, row);
     }
-}
-
-/// It is told a reply, which comes to this.
-fn said(rt: &(impl Abort + AllocGlobal), talk: &mut Talk, text: &str, want: &str) {
-    same(rt, taken(rt, talk, text), want, text);
-}
-
-/// It holds the lock of server 1 to read, and not to write.
-fn reads_alone(rt: &impl Abort, collect: &Collect) {
-    assert!(rt; collect.holds(LockMode::Shared, 1));
-    assert!(rt; !collect.holds(LockMode::Exclusive, 1));
-}
-
-#[test]
-fn only_some_replies_are_gone_on_with(rt: HostRuntime) {
-    let mut talk = talk_on(&rt, LockMode::Shared, "uneven");
-    said(&rt, &mut talk, "lost", "lost");
-    said(&rt, &mut talk, "held 1 uneven 1", "quorum");
-    reads_alone(&rt, &talk.collect);
-    said(&rt, &mut talk, "down", "lost");
-    talk.collect.raise();
-    said(&rt, &mut talk, "down", "lost");
-}
-
-/// What a lock tells that gives a quorum.
-fn quorum_of(rt: &impl Abort, collect: &mut Collect, reply: &Reply) -> Told {
-    let last = match hear(rt, collect, reply) {
-        Hearing::Quorum(last) => Some(last),
-        _ => None,
-    };
-    last.expect(rt, "a quorum")
-}
-
-/// What a quorum gives before it is told.
-fn gives(rt: &impl Abort, collect: &Collect, last: &Told) {
-    let point = quorum_after(rt, collect, last);
-    assert!(rt; point.prefix.pver == 2 && point.dver == 2 && point.source == 1);
-}
-
-/// A quorum by this reply is known before it is told.
-fn known(rt: &(impl Abort + AllocGlobal), talk: &mut Talk, reply: &Reply) {
-    let last = quorum_of(rt, &mut talk.collect, reply);
-    comes(rt, talk, "Shared at 1", "a quorum that is not told");
-    gives(rt, &talk.collect, &last);
-    tell(rt, talk, last);
-    let taken = talk.alone.take(reply).ok().expect(rt, "memory");
-    assert!(rt; taken);
-}
-
-/// What a quorum gives is the same before it is told and after it.
-#[test]
-fn a_quorum_is_known_before_it_is_told(rt: HostRuntime) {
-    let mut talk = talk_on(&rt, LockMode::Shared, "here");
-    said(&rt, &mut talk, "held 1 here 1", "asks");
-    known(&rt, &mut talk, &reply(&rt, "held 2 here 2"));
-    let wanted = "prefix 2 content 2 of [0, 1] from Some(1)";
-    comes(&rt, &talk, wanted, "a quorum that is told");
 }

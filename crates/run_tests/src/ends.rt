@@ -1,4 +1,4 @@
-//! How jobs end, in words, and jobs that cannot be done.
+//! How jobs end, in words, and a job that cannot be done.
 
 use crate::asking::{Ask, Question, ask_once, started, take};
 use crate::crew::{Crew, jobs, opened, others, work};
@@ -51,19 +51,13 @@ pub(crate) fn ended_so(rt: &(impl Abort + AllocGlobal), pool: &Pool, want: &[&st
     }
 }
 
-/// Asks server 0 and takes the pass back; there has to be a reply.
-fn replied<R: Abort + Wait>(rt: &R, servers: &Servers, pass: Pass, ask: Ask) -> Pass {
-    let question = Question { server: 0, ask };
-    let (pass, answer) = ask_once(rt, &OpenGate, servers, pass, question);
-    assert!(rt; answer.reply().is_ok());
-    pass
-}
-
-/// The pass of agent 0 of another start, with which it asked once.
+/// The pass of agent 0 of another start, with which it asked once, and had a reply.
 fn foreign(rt: &(impl Abort + AllocGlobal + Wait), settings: &Settings) -> Pass {
     let (servers, mut passes) = started(rt, settings);
     let pass = take(rt, &mut passes, Some(0));
-    let pass = replied(rt, &servers, pass, Ask::Locks);
+    let (server, ask) = (0, Ask::Locks);
+    let (pass, answer) = ask_once(rt, &OpenGate, &servers, pass, Question { server, ask });
+    assert!(rt; answer.reply().is_ok());
     assert!(rt; pass.agent() == Some(0));
     pass
 }
@@ -98,27 +92,4 @@ fn a_pass_of_another_start_is_of_no_use(rt: HostRuntime) {
     let mut own = Vec::new(rt.alloc());
     push(&rt, &mut own, foreign(&rt, &settings));
     assert!(&rt; fault(&rt, &settings, own) == Some(PoolFault::Missing(0)));
-}
-
-/// Has the operator ask server 0 until its history is as long as one may be.
-fn filled<R: Abort + Wait>(rt: &R, servers: &Servers, pass: Pass) -> Pass {
-    let mut pass = pass;
-    for _ in 0..1_000_000u32 {
-        pass = replied(rt, servers, pass, Ask::Return);
-    }
-    pass
-}
-
-#[test]
-fn a_full_server_ends_a_job(rt: HostRuntime) {
-    let Crew {
-        servers,
-        agents,
-        mut passes,
-    } = opened(&rt, &settings(&rt, 1));
-    let operator = take(&rt, &mut passes, None);
-    push(&rt, &mut passes, filled(&rt, &servers, operator));
-    let pool = list(&rt, &servers, (agents, passes)).ok();
-    let pool = pool.expect(&rt, "a pool");
-    ended_so(&rt, &pool, &["0 1 Undecided(Full { server: 0 })"]);
 }

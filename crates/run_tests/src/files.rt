@@ -1,12 +1,10 @@
 //! Files that agent 0 makes, and that all agents write and list.
 
-use crate::certified::reported;
 use crate::crew::{Crew, closed, comes_to, jobs, opened, others, work};
 use crate::ends::ended_so;
 use crate::fixtures::{push, settings};
 use agent_pool::{Player, Pool, Transcripts};
-use rep_core::Reply;
-use server_lock::{Histories, History, OpenGate, Pass, Servers};
+use server_lock::{Histories, OpenGate, Pass, Servers};
 use std::process::Abort;
 use std::sync::Wait;
 use std::thread::Threads;
@@ -111,48 +109,4 @@ fn files_are_written_by_all(rt: HostRuntime) {
     for _ in 0..5u8 {
         comes_to(&rt, &settings, &files(&rt, &settings), 192, 20);
     }
-}
-
-/// The same history, but for the reply of the last item.
-fn falsify(rt: &impl Abort, history: History) -> History {
-    let mut items = history.into_vec();
-    items.last_mut().expect(rt, "an item").reply = Reply::Lost;
-    History::from_vec(items)
-}
-
-/// The same histories, but for the reply of the last item of server 1.
-fn falsified(rt: &(impl Abort + AllocGlobal), told: Histories) -> Histories {
-    let mut all = Vec::new(rt.alloc());
-    for (server, history) in told.into_vec().into_iter().enumerate() {
-        match server {
-            1 => push(rt, &mut all, falsify(rt, history)),
-            _ => push(rt, &mut all, history),
-        }
-    }
-    Histories::from_vec(all)
-}
-
-/// Holds the last line of the program, and its exit status, against what is wanted.
-fn reports(
-    rt: &(impl Abort + AllocGlobal),
-    settings: &Settings,
-    told: &(Histories, Transcripts),
-    want: (u8, &str),
-) {
-    let (status, writer) = reported(rt, settings, told, 192);
-    let (wanted, line) = want;
-    assert!(rt;
-        status == wanted && writer.bytes() == line.as_bytes(),
-        "{line}: {status}"
-    );
-}
-
-#[test]
-fn a_falsified_reply_is_found_out(rt: HostRuntime) {
-    let settings = settings(&rt, 4);
-    let told = files(&rt, &settings);
-    reports(&rt, &settings, &told, (0, "certified 192 steps\n"));
-    let (histories, transcripts) = told;
-    let told = (falsified(&rt, histories), transcripts);
-    reports(&rt, &settings, &told, (5, "mismatch\n"));
 }

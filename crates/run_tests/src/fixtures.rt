@@ -28,13 +28,6 @@ pub(crate) fn push<T: Drop>(rt: &impl Abort, list: &mut Vec<T>, item: T) {
     assert!(rt; list.push(item).is_ok());
 }
 
-/// Puts something into a vector, at a place that it has or at its end.
-pub(crate) fn insert<T: Drop>(rt: &impl Abort, list: &mut Vec<T>, at: usize, item: T) {
-    again!(rt, list.reserve(1));
-    assert!(rt; at <= list.len());
-    assert!(rt; list.insert(at, item).is_ok());
-}
-
 /// A job as transcripts keep it.
 pub(crate) fn kept_job(rt: &(impl Abort + AllocGlobal), job: &Job) -> KeptJob {
     again!(rt, keep(rt.alloc(), job))

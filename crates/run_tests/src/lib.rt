@@ -1,10 +1,10 @@
-//! Tests of runs: of the collector, agents, worlds, servers under locks, agents in threads, and what is promised
-//! and certified of all that. They look at what these show: events, talks, replies, and that calls succeed while
-//! there is memory. What a script can say is a row of `rows`. A crate with tests is proved a second time for them,
+//! Tests of runs: of the collector, worlds, servers under locks, agents in threads, and what is promised and
+//! certified of all that. They look at what these show: events, talks, replies, and that calls succeed while there
+//! is memory. What a script can say is a row of `rows`. A crate with tests is proved a second time for them,
 //! so they stand here.
 //!
-//! **Files**: `fixtures`, `events`, `ends` (what tests share); `collector`, `sweeps`, `worlds`, `promises`;
-//! `asking`, `locks`; `crew`, `files`, `overlap`, `runs`, `certified`, `test_cluster`, `lies`.
+//! **Files**: `fixtures`, `events`, `ends` (what tests share); `collector`, `worlds`, `promises`;
+//! `asking`, `locks`; `crew`, `files`, `overlap`, `runs`, `certified`, `test_cluster`.
 #![tactic(auto)]
 
 /// What a call gives, where memory may be refused to it once. It writes the call twice, so it stands in small helpers.
@@ -35,8 +35,6 @@ mod files;
 #[cfg(test)]
 mod fixtures;
 #[cfg(test)]
-mod lies;
-#[cfg(test)]
 mod locks;
 #[cfg(test)]
 mod overlap;
@@ -44,8 +42,6 @@ mod overlap;
 mod promises;
 #[cfg(test)]
 mod runs;
-#[cfg(test)]
-mod sweeps;
 #[cfg(test)]
 mod test_cluster;
 #[cfg(test)]

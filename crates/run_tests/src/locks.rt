@@ -3,9 +3,9 @@
 //! What memory was refused to is called again, so that each allocation can be refused in turn.
 
 use crate::asking::{Ask, Question, asked, close, started, take};
-use crate::fixtures::{had, push, same, settings};
+use crate::fixtures::{push, same, settings};
 use rep_core::{LockList, Reply, Stamped};
-use server_lock::{CloseFault, Gate, History, OpenGate, Pass, ServerAnswer, Servers};
+use server_lock::{Gate, History, OpenGate, Pass, ServerAnswer, Servers};
 use std::alloc::AllocError;
 use std::process::Abort;
 use std::sync::Wait;
@@ -267,43 +267,4 @@ fn eight_threads_ask(rt: HostRuntime) {
     }
     push(&rt, &mut passes, operator);
     closes(&rt, servers, passes, &[800, 800, 800]);
-}
-
-/// It made one item, at server 0.
-fn asked_once(rt: &impl Abort, pass: &Pass) {
-    assert!(rt; pass.count() == 1 && pass.stamp() == 1 && pass.front(0) == 1 && pass.front(1) == 0);
-}
-
-/// A pass is used with the servers that it is of, and then with others.
-fn is_stale<R: Abort + AllocGlobal + Wait>(rt: &R, own: &Servers, others: &Servers, pass: Pass) {
-    let pass = told(rt, own, pass, locks_of(0), "1: Locked 0");
-    let pass = told(rt, others, pass, locks_of(0), "Stale(0)");
-    asked_once(rt, &pass);
-}
-
-#[test]
-fn a_pass_of_another_start_is_stale(rt: HostRuntime) {
-    let settings = settings(&rt, 2);
-    let (first, mut passes) = started(&rt, &settings);
-    let (second, _others) = started(&rt, &settings);
-    is_stale(&rt, &first, &second, take(&rt, &mut passes, Some(0)));
-}
-
-fn fault_words(rt: &(impl Abort + AllocGlobal), fault: &CloseFault) -> String {
-    let why = fault.why();
-    had(rt, format!(in rt.alloc(); "{why:?}"))
-}
-
-#[test]
-fn a_pass_is_missing(rt: HostRuntime) {
-    let (servers, mut passes) = started(&rt, &settings(&rt, 2));
-    run(&rt, &servers, &mut passes);
-    let _missing = take(&rt, &mut passes, Some(1));
-    let fault = close(servers, passes).err().expect(&rt, "a fault");
-    same(
-        &rt,
-        &fault_words(&rt, &fault),
-        "Count(Some(1))",
-        "the fault",
-    );
 }

@@ -71,11 +71,7 @@ fn take_turns(
 }
 
 /// Plays an event, and puts down what was served, and what its agent did.
-pub(crate) fn happens(
-    rt: &(impl Abort + AllocGlobal),
-    test_cluster: &mut TestCluster,
-    event: Event,
-) {
+fn happens(rt: &(impl Abort + AllocGlobal), test_cluster: &mut TestCluster, event: Event) {
     let agent = agent_of(&event);
     let server = asked_by(test_cluster, agent);
     let Done { served, outcome } = step(rt, &mut test_cluster.world, &event);
@@ -185,7 +181,7 @@ fn put_down(
 }
 
 /// Puts an entry at the end of an agent's transcript.
-pub(crate) fn adds(rt: &impl Abort, test_cluster: &mut TestCluster, agent: u8, entry: AgentEntry) {
+fn adds(rt: &impl Abort, test_cluster: &mut TestCluster, agent: u8, entry: AgentEntry) {
     let list = test_cluster.entries.get_mut(usize::from(agent));
     push(rt, list.expect(rt, "an agent"), entry);
 }
@@ -202,7 +198,7 @@ pub(crate) fn count(test_cluster: &TestCluster) -> usize {
 }
 
 /// The histories of its servers, and the transcripts of its agents.
-pub(crate) fn put_together(
+fn put_together(
     rt: &(impl Abort + AllocGlobal),
     test_cluster: TestCluster,
 ) -> (Histories, Transcripts) {

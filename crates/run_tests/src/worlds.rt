@@ -6,8 +6,7 @@
 
 use crate::events::event;
 use crate::fixtures::{
-    ended_by, ending, had, number, opening, push, same, settings, settings_of, small, three_votes,
-    words,
+    ended_by, ending, had, number, opening, push, same, settings, settings_of, three_votes, words,
 };
 use run_core::{EndedJob, Event, Served, World, runs_go_on, worked_runs};
 use std::alloc::AllocError;
@@ -58,25 +57,6 @@ fn happens(rt: &(impl Abort + AllocGlobal), worlds: &mut Pair, line: &str) -> St
     stepped
 }
 
-/// What is asked of the worlds: whether an agent is idle, or how many denials a server recorded.
-fn told(rt: &(impl Abort + AllocGlobal), world: &World, word: &str, at: u8) -> String {
-    let text = match word {
-        "idle" => format!(in rt.alloc(); "{}", world.idle(at)),
-        _ => format!(in rt.alloc(); "{}", world.audit(at).len()),
-    };
-    had(rt, text)
-}
-
-/// Whether the cache of an agent keeps anything for a site; a dash, if there is no such agent.
-fn keeps(rt: &impl Abort, world: &World, text: &str) -> &'static str {
-    let (agent, site) = text.split_once(' ').expect(rt, "a site");
-    match world.agent(small(rt, agent)) {
-        Some(agent) if agent.keeps(small(rt, site)) => "true",
-        Some(_) => "false",
-        None => "-",
-    }
-}
-
 /// The form of a server's copy of a suite; a dash, if it has none.
 fn form(world: &World, server: u8, suite: u64) -> &'static str {
     match world.form(server, suite) {
@@ -94,16 +74,9 @@ fn forms(rt: &(impl Abort + AllocGlobal), world: &World, suite: u64) -> String {
     had(rt, text)
 }
 
-fn written(rt: &(impl Abort + AllocGlobal), word: &str) -> String {
-    had(rt, format!(in rt.alloc(); "{word}"))
-}
-
-/// What comes of a line: `idle A`, `audit S`, `forms SUITE`, `keeps A SITE`, or an event.
+/// What comes of a line: `forms SUITE`, or an event.
 fn play(rt: &(impl Abort + AllocGlobal), worlds: &mut Pair, line: &str) -> String {
     match line.split_once(' ') {
-        Some(("idle", at)) => told(rt, &worlds.stepped, "idle", small(rt, at)),
-        Some(("audit", at)) => told(rt, &worlds.advanced, "audit", small(rt, at)),
-        Some(("keeps", text)) => written(rt, keeps(rt, &worlds.stepped, text)),
         Some(("forms", suite)) => forms(rt, &worlds.advanced, number(rt, suite)),
         _ => happens(rt, worlds, line),
     }
@@ -142,67 +115,6 @@ fn run(rt: &(impl Abort + AllocGlobal), text: &str) {
     plays(rt, &mut both(rt, &settings(rt, 2)), text);
 }
 
-static DENIED: &str = "
-begin 0 file /a; write /a hi
-idle 0 -> false
-idle 1 -> true
-idle 7 -> true
-step 0: 10 -> 0.0 10 Answered(Answers { replies: [Made(1), Wrote] })
-idle 0 -> true
-audit 0 -> 0
-audit 7 -> 0
-begin 0 close /a; read /a
-step 0: 9
-step 0 -> 0.1 10 Refused(Refusal { op: 2, why: Denied(Denial { suite: 1, wanted: Perms(4), decider: UserObj }) })
-audit 1 -> 1
-audit 0 -> 0";
-
-#[test]
-fn a_denial_is_recorded_at_its_home(rt: HostRuntime) {
-    run(&rt, DENIED);
-}
-
-static LOST: &str = "
-begin 0 file /a; write /a hi
-step 0: 10 -> 0.0 10 Answered(Answers { replies: [Made(1), Wrote] })
-begin 0 read /a; write /a hi
-step 0: 6
-crash 0
-return 0
-begin 1 close /a
-step 1: 13 -> 1.0 13 Answered(Answers { replies: [Set] })
-step 0: 3 -> 0.1 9 Undecided(Lost { server: 0 })
-step 0";
-
-#[test]
-fn a_server_is_lost(rt: HostRuntime) {
-    run(&rt, LOST);
-}
-
-/// Events without sense among others.
-static SENSELESS: &str = "
-step 0: 10
-lack 0: 10
-begin 0 file /a; write /a hi: 10
-step 0: 10 -> 0.0 10 Answered(Answers { replies: [Made(1), Wrote] })
-crash 1: 10
-begin 1 read /a: 10
-step 1: 13 -> 1.0 13 Undecided(HomeDown)
-return 1: 10
-lack 1: 10
-forget 0 0: 10
-begin 7 read /a
-step 7
-crash 7
-return 7
-forget 7 0
-lack 7";
-
-#[test]
-fn events_without_sense(rt: HostRuntime) {
-    run(&rt, SENSELESS);
-}
-
 /// A request is not served, because memory ran out: before the decision that ends a transaction, and after it changes
 /// nothing. So it is where a server is full.
 static LACKS: &str = "
@@ -228,6 +140,8 @@ step 0: 2 -> 0.4 8 Undecided(Full { server: 0 })";
 
 #[test]
 fn requests_are_not_served(rt: HostRuntime) {
+    runs_go_on();
+    worked_runs();
     run(&rt, LACKS);
 }
 
@@ -305,25 +219,6 @@ fn old_and_new_copies(rt: HostRuntime) {
     plays(&rt, &mut both(&rt, &old_settings(&rt)), OLD_AND_NEW);
 }
 
-/// The folder that agent 0 reads is kept for its site, until the site is forgotten.
-static KEPT: &str = "
-keeps 0 0 -> false
-begin 0 file /a; write /a hi
-step 0: 10 -> 0.0 10 Answered(Answers { replies: [Made(1), Wrote] })
-keeps 0 0 -> true
-keeps 0 1 -> false
-keeps 1 0 -> false
-keeps 7 0 -> -
-forget 0 0
-keeps 0 0 -> false";
-
-#[test]
-fn a_site_is_forgotten(rt: HostRuntime) {
-    let caches = (4096, 4096);
-    let settings = settings_of(&rt, three_votes(&rt), 2, caches, ServerSet::empty());
-    plays(&rt, &mut both(&rt, &settings), KEPT);
-}
-
 /// The outcomes of events; or, where memory is refused, how many were played.
 fn played(world: &mut World, events: &[Event]) -> Result<Vec<EndedJob>, usize> {
     match world.play(events) {
@@ -342,25 +237,6 @@ fn plays_on(rt: &impl Abort, world: &mut World, events: &[Event]) -> (usize, Vec
             (done, had(rt, played(world, left)))
         }
     }
-}
-
-static AT_ONCE: &str = "
-begin 0 file /a; write /a hi
-lack 0
-lack 0
-forget 0 0
-begin 1 read /a
-step 1
-lack 1";
-
-#[test]
-fn events_at_once(rt: HostRuntime) {
-    runs_go_on();
-    worked_runs();
-    let mut world = world(&rt);
-    let told = told_by(&rt, AT_ONCE);
-    let (_, outcomes) = plays_on(&rt, &mut world, &told.events);
-    assert!(&rt; outcomes.len() <= 1 && world.idle(0));
 }
 
 /// A writer stops before its deciding step, or behind it; another agent sweeps both servers that hold its locks; then the

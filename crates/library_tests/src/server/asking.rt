@@ -9,7 +9,7 @@ use std::process::Abort;
 use suite_prefix::{LockMode, PrefixKind, Replica};
 
 /// A file of these versions, with one byte where the content has a version.
-pub(super) fn file(rt: &(impl Abort + AllocGlobal), pver: u64, dver: u64) -> Replica {
+fn file(rt: &(impl Abort + AllocGlobal), pver: u64, dver: u64) -> Replica {
     let bytes: &[u8] = if dver == 0 { &[] } else { &[7] };
     crate::fixtures::file(rt, pver, dver, bytes)
 }

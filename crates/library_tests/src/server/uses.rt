@@ -1,28 +1,12 @@
-//! Callers that are proved against the contracts: what `==` tells, and that who has settings and
-//! requests meets what the law of valid copies asks.
+//! A caller of laws that is proved against their contracts: who has settings and requests meets what the law
+//! of valid copies asks.
 
-ghost use Rattle.std.specs.Prelude.{◌≡◌, ◌↔◌, ℕ, IsTrue, ◌∷◌, []};
+ghost use Rattle.std.specs.Prelude.{ℕ, ◌∷◌, []};
 ghost use Rattle.rep_core.specs.Laws.{reached};
 ghost use Rattle.rep_core.specs.ValidCopies.{HasValidCopies};
 
-use rep_core::{Reply, Request, Stamped, copies_are_valid, settings_fit};
+use rep_core::{Request, Stamped, copies_are_valid, settings_fit};
 use suite_prefix::Settings;
-
-/// Whether two requests are the same, with their stamps.
-#[tactic(auto, using(crate::proofs::Same::same_requests))]
-pub fn same_requests(a: &Stamped<Request>, b: &Stamped<Request>) -> bool
-    ensures { IsTrue result ↔ (a.now ≡ b.now) }
-{
-    a == b
-}
-
-/// Whether two replies are the same, with their stamps.
-#[tactic(auto, using(crate::proofs::Same::same_replies))]
-pub fn same_replies(a: &Stamped<Reply>, b: &Stamped<Reply>) -> bool
-    ensures { IsTrue result ↔ (a.now ≡ b.now) }
-{
-    a == b
-}
 
 /// A law: every server that was opened with these settings and asked these two requests has valid copies.
 /// It does nothing.
