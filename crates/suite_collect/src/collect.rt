@@ -1,7 +1,7 @@
 //! The collector.
 
 ghost use Rattle.std.specs.FinSet.{contains};
-ghost use Rattle.std.specs.Prelude.{◌≡◌, ℕ, ◌<◌, is_some, IsTrue, IfOk, IfSome, IfErr, OnOk, OnErr};
+ghost use Rattle.std.specs.Prelude.{◌≡◌, ◌==◌, ℕ, ◌<◌, find, unwrap_or, is_some, IsTrue, IfOk, IfSome, IfErr, OnOk, OnErr};
 ghost use Rattle.suite_collect.specs.code.CollectFields.{due_of};
 ghost use Rattle.suite_collect.specs.code.Dues.{IsKnown, due_in};
 ghost use Rattle.suite_collect.specs.Collecting as spec;
@@ -245,24 +245,22 @@ impl Collect {
         requires { last.now.server < MAX_SERVERS }
         ensures { IfOk result (λ point. point ≡ read_point (spec.tell last.now self.now.collector)) }
     {
-        let mut after = self.clone()?;
-        after.tell(last.keep()?);
-        after.read_point()
-    }
-
-    /// What the quorum gives that there is.
-    fn read_point(&self) -> Result<ReadPoint, AllocError>
-        ensures { IfOk result (λ point. point ≡ read_point self.now.collector) }
-    {
-        let dver = self.version();
-        let members = self.members();
-        let source = self.told.first_showing(dver, members.as_slice());
-        let prefix = self.newest().clone()?;
-        Ok(ReadPoint {
-            prefix,
-            dver,
-            source: source.unwrap_or(0),
-        })
+        match &self.widening {
+            Some(widening) => {
+                let mut all = widening.all.same();
+                all.add(last);
+                let members = members_of(&widening.votes, &all.holders(LockMode::Exclusive));
+                read_point(self.newest(), &self.told, self.version(), &members)
+            }
+            None => {
+                let mut told = self.told.same();
+                told.add(last);
+                let newest = newer_of(self.newest(), &last.said);
+                let members = members_of(&newest.votes, &told.holders(self.mode));
+                let dver = told.greatest(members.as_slice());
+                read_point(newest, &told, dver, &members)
+            }
+        }
     }
 
     /// The mode in which locks are wanted before a widening.
@@ -387,4 +385,22 @@ impl Collect {
     {
         members_of(self.counted(), &self.heard().holders(self.wanted()))
     }
+}
+
+/// What members give: a prefix and a version, and the first of them that showed it.
+fn read_point(
+    prefix: &SharedPrefix,
+    told: &Heard,
+    dver: u64,
+    members: &Members,
+) -> Result<ReadPoint, AllocError>
+    ensures { IfOk result (λ point. point ≡ record { prefix = prefix.now; dver = dver; source = unwrap_or (find (λ server. telling.shown told.now server == dver) members.now.items) 0 }) }
+{
+    let source = told.first_showing(dver, members.as_slice());
+    let prefix = prefix.clone()?;
+    Ok(ReadPoint {
+        prefix,
+        dver,
+        source: source.unwrap_or(0),
+    })
 }

@@ -1,8 +1,5 @@
 //! What servers say to a collector.
 
-ghost use Rattle.std.specs.Prelude.{◌≡◌, IfOk};
-
-use std::alloc::AllocError;
 use suite_prefix::{LockMode, SharedPrefix};
 
 /// What a server said when it was asked for a lock.
@@ -22,25 +19,4 @@ pub struct Told {
     pub server: u8,
     pub mode: LockMode,
     pub said: Said,
-}
-
-impl Told {
-    /// A copy.
-    pub(crate) fn keep(&self) -> Result<Told, AllocError>
-        ensures { IfOk result (λ told. told ≡ self.now) }
-    {
-        let said = match &self.said {
-            Said::Held { prefix, dver } => Said::Held {
-                prefix: prefix.clone()?,
-                dver: *dver,
-            },
-            Said::Busy { holder } => Said::Busy { holder: *holder },
-            Said::Down => Said::Down,
-        };
-        Ok(Told {
-            server: self.server,
-            mode: self.mode,
-            said,
-        })
-    }
 }
