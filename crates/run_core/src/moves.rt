@@ -22,7 +22,7 @@ pub(crate) fn begin(seats: &mut Vec<WorldAgent>, number: u8, job: &Job) -> Resul
     ensures memory { IfErr result (λ _. moved.BeginWants seats.old.items number job.now) }
 {
     match seats.get_mut(usize::from(number)) {
-        Some(seat) => seat.begin(job),
+        Some(seat) => seat.agent.begin(job),
         None => Ok(()),
     }
 }
@@ -32,7 +32,7 @@ pub(crate) fn forget(seats: &mut Vec<WorldAgent>, number: u8, site: u8)
     ensures { Becomes (slice_get seats.old.items number) (λ seat. changed seat (agents.forget seat.actor.agent site)) number seats.old.items seats.new.items }
 {
     if let Some(seat) = seats.get_mut(usize::from(number)) {
-        seat.forget(site);
+        seat.agent.forget(site);
     }
 }
 

@@ -13,12 +13,12 @@ use rep_core::{Lack, Reply, Stamped};
 use std::alloc::{AllocError, Global};
 use std::marker::Model;
 use suite_prefix::Settings;
-use txn_core::{Agent, Ending, Job};
+use txn_core::{Agent, Ending};
 
 /// An agent, with the last stamp that it was told, and how many steps its job has taken.
 #[derive(Drop)]
 pub(crate) struct WorldAgent {
-    agent: Agent,
+    pub(crate) agent: Agent,
     stamp: u64,
     steps: u64,
 }
@@ -64,22 +64,6 @@ impl WorldAgent {
         ensures { result ≡ self.now.actor.stamp }
     {
         self.stamp
-    }
-
-    /// Begins a job.
-    pub(crate) fn begin(&mut self, job: &Job) -> Result<(), AllocError>
-        ensures ok { OnOk result (self.new ≡ seats.changed self.old (agents.begin self.old.fixed self.old.actor.agent job.now)) }
-        ensures err { OnErr result (self.new ≡ self.old) }
-        ensures memory { IfErr result (λ _. IsTrue (wanting.by_job self.old.fixed self.old.actor.agent job.now)) }
-    {
-        self.agent.begin(job)
-    }
-
-    /// Forgets what is kept for a site.
-    pub(crate) fn forget(&mut self, site: u8)
-        ensures { self.new ≡ seats.changed self.old (agents.forget self.old.actor.agent site) }
-    {
-        self.agent.forget(site);
     }
 
     /// Takes a reply of the server that it asks, and has the reply's stamp from then on. How its job ended is
