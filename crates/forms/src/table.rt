@@ -100,10 +100,8 @@ fn push_limits(text: &mut Vec<u8>, scope: &Scope, place: Place) -> Result<(), Al
 
 /// The lines of a command's scripts, by the command's name.
 pub(crate) fn lines_of(command: &[u8]) -> Option<Forms> {
-    COMMANDS
-        .iter()
-        .find(|row| command == row.0)
-        .map(|row| row.1)
+    let row = COMMANDS.iter().find(|row| command == row.0)?;
+    Some(row.1)
 }
 
 /// The table.
