@@ -23,6 +23,8 @@ SPAN = r"`([^`]*)`"
 EXAMPLE = re.compile(rf"({SPAN}(?:, {SPAN})*) prints {SPAN}(?: \({SPAN}\))?")
 STATUS = re.compile(r"(?:status |exit )?(\d)$|(?:status |exit )(\d{2,3})$")
 FAULT = re.compile(r"fault (?:line (\d+): )?([SAVNG]\d+(?: A\d+)?(?: item \d+)?)(?: (.+))?$")
+# A line or an item that no script and no list has.
+NONE = re.compile(r"fault (?:.* )?((?:line|item) 0+)\b")
 # The parts of the page that tell of a line of such a form: of `explore`, of a session besides what its lines print, of
 # a trace, and of a list.
 OF_WAYS, OF_TRACE = ("all", "way"), "trace"
@@ -197,8 +199,11 @@ def of_file(fault: re.Match[str], path: str, language: str | None) -> str:
     """The line of a script or the item of a list that has a fault, what is wrong with it, and what the code means."""
     name, given = read_file(path)
     text, code = given.decode("latin1"), fault[2]
-    waiting = explore_lines.of_waiting(text, int(fault[1]), quoted.plain(name)) if fault[1] else []
-    if waiting:
+    nothing = NONE.match(fault[0][: fault.start(3)])
+    waiting = [] if nothing or not fault[1] else explore_lines.of_waiting(text, int(fault[1]), quoted.plain(name))
+    if nothing:
+        told, is_found = [f"{quoted.plain(name)} has no {nothing[1]}: lines and items are counted from 1."], False
+    elif waiting:
         told, is_found = waiting, True
     elif fault[1] and judge_lines.is_history(text):
         told, is_found = judge_lines.of_fault(text, name, int(fault[1]), code), True

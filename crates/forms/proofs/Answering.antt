@@ -1,5 +1,5 @@
 -- What is told of the line that was asked.
-use Rattle.std.proofs.Common.{◌≡◌, ℕ, true, false, is_some, List, ◌∷◌, ◌++◌, Option, Some, None, Result, Ok, Err, Vec, IfOk, Contains, refl, ◌∙◌, ap, sym, subst, inl, inr, true≢false, bytes_eq, codes}
+use Rattle.std.proofs.Common.{◌≡◌, ℕ, ◌⊎◌, true, false, is_some, List, ◌∷◌, ◌++◌, Option, Some, None, Result, Ok, Err, Vec, IfOk, Contains, refl, ◌∙◌, ap, sym, subst, inl, inr, true≢false, bytes_eq, codes}
 use Rattle.std.specs.Str.Lines.{lines}
 use Rattle.std.specs.declared.alloc.Global.{Global}
 use Rattle.acl_text.specs.Places.{item_place}
@@ -29,13 +29,14 @@ begins_all head front more text begins is = record { rest = more; is = is ∙ ap
 
 -- ---- what is found of a line
 
-pub found_misplaced : (scope : Scope) (forms : Forms) (line : List ℕ) (first : Word) (rest : List Word) (number : ℕ) (fault : Option LineFault) → is_skipped line ≡ false
-    → words line ≡ first ∷ rest → is_some (form_in forms first) ≡ true → number ≡ 1 → fault ≡ Some code.Order → IsFound scope forms line number fault
-found_misplaced scope forms line first rest number fault says is known one order = inr (says, Misplaced first rest is known one order)
-
-pub found_unknown : (scope : Scope) (forms : Forms) (line : List ℕ) (first : Word) (rest : List Word) (number : ℕ) (fault : Option LineFault) → is_skipped line ≡ false
-    → words line ≡ first ∷ rest → form_in forms first ≡ None → number ≡ 1 → fault ≡ Some code.Form → IsFound scope forms line number fault
-found_unknown scope forms line first rest number fault says is unknown one form = inr (says, Unknown first rest is unknown one form)
+pub found_nowhere : (scope : Scope) (forms : Forms) (line : List ℕ) (first : Word) (rest : List Word) (number : ℕ) (told : LineFault) (fault : Option LineFault)
+    → is_skipped line ≡ false → words line ≡ first ∷ rest
+    → ((told ≡ code.Order) × (is_some (form_in forms first) ≡ true)) ⊎ ((told ≡ code.Form) × (form_in forms first ≡ None))
+    → number ≡ 1 → fault ≡ Some told → IsFound scope forms line number fault
+found_nowhere scope forms line first rest number told fault says is (inl misplaced) one some =
+    inr (says, Misplaced first rest is misplaced.1 one (some ∙ ap Some misplaced.0))
+found_nowhere scope forms line first rest number told fault says is (inr unknown) one some =
+    inr (says, Unknown first rest is unknown.1 one (some ∙ ap Some unknown.0))
 
 pub found_standing : {E : Type 0} (scope : Scope) (forms : Forms) (line : List ℕ) (word first : Word) (rest : List Word) (result : Result Found E) → is_skipped line ≡ false
     → words line ≡ first ∷ rest → word ≡ first → IfOk result (λ found. IsFaultOf scope forms (word ∷ rest) found.number found.fault)

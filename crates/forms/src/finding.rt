@@ -1,17 +1,17 @@
 //! What is printed of a line of a script.
 
-ghost use Rattle.std.specs.Prelude.{◌≡◌, ◌∷◌, ◌++◌, Contains, IfOk, OnOk, Some, None};
+ghost use Rattle.std.specs.Prelude.{◌≡◌, ◌∷◌, Contains, IfOk};
 ghost use Rattle.std.specs.Bool.{IsTrue};
 ghost use Rattle.script_text.specs.Words.{words};
 ghost use Rattle.suite_script.specs.Misfits.{line_misfit};
-ghost use Rattle.forms.specs.Answers.{IsAt, IsDue, IsOfCommand, IsOfEach, IsOfLine};
-ghost use Rattle.forms.specs.Finding.{head_at, item_in, place_text, tab};
+ghost use Rattle.forms.specs.Answers.{IsAt, IsOfCommand, IsOfEach, IsOfLine};
+ghost use Rattle.forms.specs.Finding.{head_at, item_in};
 ghost use Rattle.forms.specs.Mends.{FitsOne, all_of};
 ghost use Rattle.forms.specs.code.Trials.{IsFaultIn, IsFoundIn};
 
 use crate::list::{item_of_text, text_told};
-use crate::mend::{Trial, push_field, push_mends, push_word};
-use crate::reading::{Reading, Standing, is_skipped, line_at};
+use crate::mend::{Trial, push_count, push_field, push_mends, push_word};
+use crate::reading::{Reading, is_skipped, line_at};
 use crate::reason::{Reason, Reasoned, bytes_told, name_told, number_told};
 use crate::table::{about, limits, push_places};
 use script_text::{Words, push_number};
@@ -90,33 +90,25 @@ pub(crate) fn fits(reading: &Reading<'_>, line: &[u8]) -> Result<bool, AllocErro
     Ok(!is_skipped(line) && found.fault.is_none())
 }
 
-/// What is found of a line.
+/// What is found of a line. Where it says nothing, or there is none, a line of the header may be due behind the last.
 fn found_of(trial: Trial<'_>) -> Result<Found, AllocError>
     ensures { IfOk result (λ found. IsFoundIn trial.entry found.number found.fault) }
 {
     let due = trial.reading.due();
     if is_skipped(trial.line) {
-        return Ok(of_nothing(trial, due));
+        if due.is_some() && trial.reading.is_end() {
+            return Ok(of_line(1, Some(LineFault::Order), due));
+        }
+        return Ok(of_line(0, None, None));
     }
     let mut words = Words::new(trial.line);
     let Some(first) = words.next() else {
-        return Ok(of_whole(1, LineFault::Form, due));
+        return Ok(of_line(1, Some(LineFault::Form), due));
     };
     match trial.reading.standing(first) {
-        Standing::Misplaced => Ok(of_whole(1, LineFault::Order, due)),
-        Standing::Unknown => Ok(of_whole(1, LineFault::Form, due)),
-        Standing::Here(form) => of_standing(trial, form, words),
+        Ok(form) => of_standing(trial, form, words),
+        Err(fault) => Ok(of_line(1, Some(fault), due)),
     }
-}
-
-/// What is found of a line that says nothing, or that there is not: a line of the header may be due behind the last.
-fn of_nothing(trial: Trial<'_>, due: Option<LineForm>) -> Found
-    ensures { IsDue result.number result.fault }
-{
-    if due.is_some() && trial.reading.is_end() {
-        return of_whole(1, LineFault::Order, due);
-    }
-    of_none(None)
 }
 
 /// What is found of a line whose first word stands in its place: it may stand there once, or ask for what cannot be.
@@ -125,22 +117,20 @@ fn of_standing(trial: Trial<'_>, form: LineForm, words: Words<'_>) -> Result<Fou
     ensures { IfOk result (λ found. IsFaultIn trial.entry (form.word.now ∷ words.entry) found.number found.fault) }
 {
     if form.word == b"together".as_slice() && trial.reading.line_of(form.word).is_some() {
-        return Ok(of_whole(1, LineFault::Form, None));
+        return Ok(of_line(1, Some(LineFault::Form), None));
     }
     let found = of_form(trial, form, words)?;
     if form.word == b"old".as_slice() && found.fault.is_none() && !is_held(trial)? {
         let fault = LineFault::Settings(SettingsFault::OldTooLarge);
-        return Ok(of_whole(2, fault, None));
+        return Ok(of_line(2, Some(fault), None));
     }
     Ok(found)
 }
 
 /// Whether form 1 holds the root folder of the lines above, which have no fault.
 fn is_held(trial: Trial<'_>) -> Result<bool, AllocError> {
-    let (root, votes) = (
-        trial.reading.line_of(b"root"),
-        trial.reading.line_of(b"votes"),
-    );
+    let root = trial.reading.line_of(b"root");
+    let votes = trial.reading.line_of(b"votes");
     let (Some(mut root), Some(mut votes)) = (root, votes) else {
         return Ok(true);
     };
@@ -157,7 +147,7 @@ fn is_held(trial: Trial<'_>) -> Result<bool, AllocError> {
 fn of_form(trial: Trial<'_>, form: LineForm, words: Words<'_>) -> Result<Found, AllocError>
     ensures { IfOk result (λ found. IsAt (line_misfit trial.entry.reading.now.scope form.places.now form.ending words.entry) found.number found.fault) }
 {
-    let found = of_none(Some(form));
+    let found = of_line(0, None, Some(form));
     let reading = trial.reading;
     match reading.scope.misfit(reading.alloc, form, words)? {
         Some(misfit) => Ok(Found {
@@ -170,28 +160,17 @@ fn of_form(trial: Trial<'_>, form: LineForm, words: Words<'_>) -> Result<Found, 
     }
 }
 
-/// Nothing is found.
-fn of_none(form: Option<LineForm>) -> Found
-    ensures { result.fault ≡ None }
-{
-    Found {
-        number: 0,
-        fault: None,
-        expected: None,
-        form,
-        begin: 1,
-    }
-}
-
-/// What is found of a line as a whole.
-fn of_whole(number: u64, fault: LineFault, due: Option<LineForm>) -> Found
+/// What is found of a line as a whole: nothing, or a fault of its word of this number.
+fn of_line(number: u64, fault: Option<LineFault>, form: Option<LineForm>) -> Found
     ensures number { result.number ≡ number }
-    ensures fault { result.fault ≡ Some fault }
+    ensures fault { result.fault ≡ fault }
 {
     Found {
         number,
-        fault: Some(fault),
-        ..of_none(due)
+        fault,
+        expected: None,
+        form,
+        begin: 1,
     }
 }
 
@@ -261,13 +240,10 @@ fn rest_of(trial: Trial<'_>, found: Found, above: u64) -> Result<Vec<u8>, AllocE
     }
     text.push(b'\t')?;
     let word = trial.word(found.number);
-    push_place(
-        &mut text,
-        found.fault.and_then(|fault| item_in(word, fault)),
-    )?;
+    let item = found.fault.and_then(|fault| item_in(word, fault));
+    push_count(&mut text, item.map(|item| item as u64))?;
     push_mends(&mut text, trial, found)?;
-    push_number(&mut text, above)?;
-    text.push(b'\t')?;
+    push_count(&mut text, Some(above))?;
     told_of(&trial.reading.scope, found, word).push(&mut text)?;
     text.push(b'\n')?;
     Ok(text)
@@ -295,16 +271,4 @@ fn item_in(word: &[u8], fault: LineFault) -> Option<usize>
         LineFault::List(fault) => item_of_text(word, fault),
         _ => None,
     }
-}
-
-/// Adds a place with a tab behind it; a hyphen, where there is none.
-pub(crate) fn push_place(text: &mut Vec<u8>, place: Option<usize>) -> Result<(), AllocError>
-    ensures { OnOk result (text.new.items ≡ text.old.items ++ place_text place ++ tab) }
-{
-    match place {
-        Some(place) => push_number(text, place as u64)?,
-        None => text.push(b'-')?,
-    }
-    text.push(b'\t')?;
-    Ok(())
 }

@@ -10,7 +10,7 @@
 //! - `operation WORD PLACES DOES`.
 //!
 //! With the words COMMAND and NUMBER it reads a script, whose lines above that number have no fault. Of that line it
-//! prints `WORD CODE EXPECTED FORM ITEM INSTEAD BEFORE SHIFT REASON NUMBER PART`:
+//! prints `WORD CODE EXPECTED FORM ITEM INSTEAD BEFORE SHIFT ABOVE REASON NUMBER PART`:
 //!
 //! - the number of the first word that does not fit, the code of the fault, the place where the word stands (or `END`,
 //!   `OPERATION`, `LINE`), the form that has this place or is due;
@@ -18,11 +18,11 @@
 //! - the words with which the line has no fault in the place of this one, and those before it; and what would explain
 //!   the fault as one of a word too many or too few: `path`, where a path seems to have a space, `missing`, where a word
 //!   is missing before it, or the numbers of words without which the line has no fault;
+//! - the number of the first line above with a fault, or 0;
 //! - why it does not fit: a reason with its number, and the part of the word of which it speaks. What the words and the
 //!   lines above show is told by `tools/explain`, and is `due` here.
 //!
-//! With the words `script` and NUMBER it prints this of each command, and before it `COMMAND LIKENESS ABOVE`: how like
-//! the script is to one of this command, and the number of the first line above with a fault, or 0.
+//! With the words `script` and NUMBER it prints this of each command, behind its name and a tab.
 //!
 //! With the words `list` and NUMBER it reads a list, and prints `ITEM CODE REASON NUMBER PART` of the item of that
 //! number, as a list of its own, or of 0 of the whole list, where each name is taken for one that has a number; with
@@ -40,9 +40,8 @@
 //!
 //! **Definitions** (`specs/`): `Answers`, `Finding`, `Mends`, `Reasons`, `Runs`.
 //!
-//! **Files**: `places` (their names and limits), `table`, `reading` and `above` (the lines of a script), `finding`
-//! (what is found and printed of one), `whose` (of which command a script is), `list`, `mend` (what would mend the
-//! line), `reason`; for the reasons `number` (with bytes) and `permission`.
+//! **Files**: `table` (the forms, and their places with limits), `reading` (the lines above), `finding` (what is found
+//! and printed of a line), `list`, `mend` (what would mend the line; how a field is printed), `reason`.
 #![tactic(auto)]
 
 ghost use Rattle.std.specs.Prelude.{IfOk, map};

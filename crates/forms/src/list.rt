@@ -4,7 +4,7 @@ ghost use Rattle.std.specs.Prelude.{◌≡◌, ◌++◌, IfOk};
 ghost use Rattle.forms.specs.Answers.{IsOfItem};
 ghost use Rattle.forms.specs.Finding.{BeginsWith, item_of_text, place_text, tab};
 
-use crate::finding::push_place;
+use crate::mend::push_count;
 use crate::reason::{Reason, Reasoned, name_told, permissions_told};
 use acl_text::{NameError, Names, TextFault, item_place, push_text_code, read_acl};
 use std::alloc::{AllocError, Global};
@@ -133,7 +133,7 @@ fn printed(
     told.push(&mut rest)?;
     rest.push(b'\n')?;
     let mut text = Vec::new(alloc);
-    push_place(&mut text, place)?;
+    push_count(&mut text, place.map(|place| place as u64))?;
     text.extend_from_slice(&rest)?;
     Ok(text)
 }

@@ -4,11 +4,12 @@ ghost use Rattle.std.specs.Prelude.{◌≡◌, ◌++◌, IfOk, OnOk};
 ghost use Rattle.std.specs.Bool.{IsTrue};
 ghost use Rattle.std.specs.List.{flat_map};
 ghost use Rattle.script_text.specs.Words.{words};
-ghost use Rattle.forms.specs.Mends.{AreTold, IsWord, changed, field, is_verb, numbered, or_hyphen, placed, put_at, spaced};
+ghost use Rattle.forms.specs.Finding.{place_text, tab};
+ghost use Rattle.forms.specs.Mends.{AreTold, IsWord, changed, field, is_verb, numbered, placed, put_at, spaced};
 ghost use Rattle.forms.specs.code.Trials.{AddsFields, AddsMends, IsCutIn, IsMissingIn, IsShiftIn, MendsIn, change_of};
 
 use crate::finding::{Found, fits};
-use crate::reading::{Reading, Standing};
+use crate::reading::Reading;
 use crate::reason::is_digits;
 use crate::table::about;
 use script_text::{Words, push_number};
@@ -44,23 +45,29 @@ pub(crate) fn push_word(text: &mut Vec<u8>, word: &[u8]) -> Result<(), AllocErro
     ensures { OnOk result (text.new.items ≡ text.old.items ++ spaced word.now) }
 {
     text.extend_from_slice(word)?;
-    text.push(b' ')?;
-    Ok(())
+    text.extend_from_slice(b" ")
 }
 
 /// Adds a field with a tab behind it; a hyphen, where there is nothing.
 pub(crate) fn push_field(text: &mut Vec<u8>, given: &[u8]) -> Result<(), AllocError>
     ensures { OnOk result (text.new.items ≡ text.old.items ++ field given.now) }
 {
-    text.extend_from_slice(or_hyphen(given))?;
-    text.push(b'\t')?;
-    Ok(())
+    match given {
+        [] => text.push(b'-')?,
+        _ => text.extend_from_slice(given)?,
+    }
+    text.extend_from_slice(b"\t")
 }
 
-fn or_hyphen(given: &[u8]) -> &[u8]
-    ensures { result.now ≡ or_hyphen given.now }
+/// Adds a number with a tab behind it; a hyphen, where there is none.
+pub(crate) fn push_count(text: &mut Vec<u8>, count: Option<u64>) -> Result<(), AllocError>
+    ensures { OnOk result (text.new.items ≡ text.old.items ++ place_text count ++ tab) }
 {
-    if given.is_empty() { b"-" } else { given }
+    match count {
+        Some(count) => push_number(text, count)?,
+        None => text.push(b'-')?,
+    }
+    text.extend_from_slice(b"\t")
 }
 
 /// A line that is changed at the word of this number.
@@ -202,7 +209,7 @@ impl<'a> Trial<'a> {
         let Some(first) = words.next() else {
             return Ok(false);
         };
-        let Standing::Here(form) = self.reading.standing(first) else {
+        let Ok(form) = self.reading.standing(first) else {
             return Ok(false);
         };
         let Some(misfit) = self.reading.scope.misfit(self.reading.alloc, form, words)? else {
@@ -211,10 +218,7 @@ impl<'a> Trial<'a> {
         let (FormEnding::Operations, Expected::End) = (form.ending, misfit.expected) else {
             return Ok(false);
         };
-        if is_verb(self.word(misfit.number.saturating_sub(1))) {
-            return Ok(false);
-        }
-        Ok(true)
+        Ok(!is_verb(self.word(misfit.number.saturating_sub(1))))
     }
 
     /// What would explain the fault as one of a word too many or too few: `path` where a path seems to have a space,
@@ -245,7 +249,7 @@ impl<'a> Trial<'a> {
 }
 
 /// Whether a word begins an operation.
-pub(crate) fn is_verb(word: &[u8]) -> bool
+fn is_verb(word: &[u8]) -> bool
     ensures { result ≡ is_verb word.now }
 {
     VERBS.iter().any(|verb| word == verb.form().word)

@@ -14,7 +14,7 @@ use acl_text::Names;
 use script_text::{Lines, Words, read_number};
 use std::alloc::{AllocError, Global};
 use suite_prefix::MAX_AGENTS;
-use suite_script::{Forms, LineForm, Place, Scope};
+use suite_script::{Forms, LineFault, LineForm, Place, Scope};
 use vote_core::MAX_SERVERS;
 
 /// A script that was read up to the line of some number.
@@ -31,17 +31,6 @@ pub(crate) struct Reading<'a> {
     /// Whether a line of the command's own came.
     is_begun: bool,
     pub(crate) scope: Scope,
-}
-
-/// Where a line stands that begins with some word.
-#[derive(Clone, Copy)]
-pub(crate) enum Standing {
-    /// In its place.
-    Here(LineForm),
-    /// Out of its place.
-    Misplaced,
-    /// Nowhere.
-    Unknown,
 }
 
 /// As many servers and agents as there may be, and no names.
@@ -122,28 +111,28 @@ impl<'a> Reading<'a> {
         self.forms.header.get(self.header).copied()
     }
 
-    /// Where a line stands that begins with this word and comes next.
-    pub(crate) fn standing(&self, word: &[u8]) -> Standing
+    /// The form of a line that begins with this word and comes next; or its fault, where it has another place or none.
+    pub(crate) fn standing(&self, word: &[u8]) -> Result<LineForm, LineFault>
         ensures { StandsIn self.now.forms word.now result }
     {
         if let Some(due) = self.due() {
             if word == due.word {
-                return Standing::Here(due);
+                return Ok(due);
             }
         } else {
             if let Some(form) = form_of(self.forms.own, word) {
-                return Standing::Here(form);
+                return Ok(form);
             }
             if let (Some(form), false) = (form_of(self.forms.names, word), self.is_begun) {
-                return Standing::Here(form);
+                return Ok(form);
             }
             if let (Some(form), true) = (form_of(self.forms.optional, word), self.is_open) {
-                return Standing::Here(form);
+                return Ok(form);
             }
         }
         match known(self.forms, word) {
-            Some(_form) => Standing::Misplaced,
-            None => Standing::Unknown,
+            Some(_form) => Err(LineFault::Order),
+            None => Err(LineFault::Form),
         }
     }
 
@@ -155,7 +144,7 @@ impl<'a> Reading<'a> {
         let Some(first) = words.next() else {
             return Ok(());
         };
-        let Standing::Here(form) = self.standing(first) else {
+        let Ok(form) = self.standing(first) else {
             return Ok(());
         };
         if self.due().is_some() {

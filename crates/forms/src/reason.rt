@@ -8,8 +8,8 @@ ghost use Rattle.acl_text.specs.Qualifiers.{is_name_byte};
 ghost use Rattle.script_text.specs.Numbers.{is_number};
 ghost use Rattle.forms.specs.Reasons.{Tells, TellsNumber, bytes_reason, number_reason};
 
-use crate::mend::push_field;
-use script_text::{push_number, read_number};
+use crate::mend::{push_count, push_field};
+use script_text::read_number;
 use std::alloc::AllocError;
 use std::slice::from_ref;
 
@@ -41,21 +41,20 @@ pub(crate) struct Reasoned<'a> {
 impl<'a> Reasoned<'a> {
     /// A reason without a number.
     pub(crate) fn of(reason: Reason, part: &'a [u8]) -> Reasoned<'a>
-        ensures reason { result.reason ≡ reason }
-        ensures number { result.number ≡ None }
+        ensures told { Tells (reason, None) result }
         ensures part { result.part.now ≡ part.now }
     {
-        Reasoned::numbered((reason, None), part)
+        Reasoned::numbered(reason, None, part)
     }
 
     /// A reason with the number that is told of it, if one is.
-    fn numbered(reason: (Reason, Option<u64>), part: &'a [u8]) -> Reasoned<'a>
-        ensures told { Tells reason result }
+    fn numbered(reason: Reason, number: Option<u64>, part: &'a [u8]) -> Reasoned<'a>
+        ensures told { Tells (reason, number) result }
         ensures part { result.part.now ≡ part.now }
     {
         Reasoned {
-            reason: reason.0,
-            number: reason.1,
+            reason,
+            number,
             part,
         }
     }
@@ -76,11 +75,7 @@ impl<'a> Reasoned<'a> {
             Reason::NoNameByte => b"no-name-byte",
         };
         push_field(text, name)?;
-        match self.number {
-            Some(number) => push_number(text, number)?,
-            None => text.push(b'-')?,
-        }
-        text.push(b'\t')?;
+        push_count(text, self.number)?;
         text.extend_from_slice(self.part)
     }
 }
@@ -99,25 +94,17 @@ pub(crate) fn is_digits(word: &[u8]) -> bool
     0 < word.len() && are_digits(word)
 }
 
-/// Why a word is no number within its limits, if it is none; and the limit that it passes.
-fn number_reason(word: &[u8], least: u64, most: u64) -> Option<(Reason, Option<u64>)>
-    ensures { result ≡ number_reason least most word.now }
-{
-    match read_number(word, most) {
-        Some(number) if number < least => Some((Reason::Below, Some(least))),
-        Some(_) => None,
-        None if is_digits(word) => Some((Reason::Above, Some(most))),
-        None => Some((Reason::NoNumber, None)),
-    }
-}
-
-/// What is told of a number.
+/// Why a word is no number within its limits, if it is none, and the limit that it passes.
 pub(crate) fn number_told(word: &[u8], least: u64, most: u64) -> Reasoned<'_>
     ensures told { TellsNumber (number_reason least most word.now) result }
     ensures part { result.part.now ≡ word.now }
 {
-    let reason = number_reason(word, least, most);
-    Reasoned::numbered(reason.unwrap_or((Reason::Due, None)), word)
+    match read_number(word, most) {
+        Some(number) if number < least => Reasoned::numbered(Reason::Below, Some(least), word),
+        Some(_) => Reasoned::of(Reason::Due, word),
+        None if is_digits(word) => Reasoned::numbered(Reason::Above, Some(most), word),
+        None => Reasoned::of(Reason::NoNumber, word),
+    }
 }
 
 /// Whether a word has hexadecimal digits alone.
@@ -127,23 +114,16 @@ fn is_hexadecimal(word: &[u8]) -> bool
     word.iter().all(|byte| byte.is_ascii_hexdigit())
 }
 
-/// Why a word is no bytes, and how many digits it then has.
-fn bytes_reason(word: &[u8]) -> (Reason, Option<u64>)
-    ensures { result ≡ bytes_reason word.now }
-{
-    if is_hexadecimal(word) {
-        (Reason::OddDigits, Some(word.len() as u64))
-    } else {
-        (Reason::NoDigits, None)
-    }
-}
-
-/// What is told of bytes in hexadecimal digits.
+/// Why a word is no bytes in hexadecimal digits, and how many digits it has where they are odd.
 pub(crate) fn bytes_told(word: &[u8]) -> Reasoned<'_>
     ensures told { Tells (bytes_reason word.now) result }
     ensures part { result.part.now ≡ word.now }
 {
-    Reasoned::numbered(bytes_reason(word), word)
+    if is_hexadecimal(word) {
+        Reasoned::numbered(Reason::OddDigits, Some(word.len() as u64), word)
+    } else {
+        Reasoned::of(Reason::NoDigits, word)
+    }
 }
 
 fn is_permission(byte: u8) -> bool

@@ -2,9 +2,8 @@
 
 ghost use Rattle.forms.specs.Reasons.{AreLimitsOf};
 
-use crate::mend::push_field;
+use crate::mend::{push_count, push_field};
 use crate::reading::widest;
-use script_text::push_number;
 use std::alloc::{AllocError, Global};
 use suite_prefix::{MAX_AGENTS, MAX_CACHE, MAX_SLOTS};
 use suite_script::Place::{
@@ -86,21 +85,17 @@ fn push_limits(text: &mut Vec<u8>, scope: &Scope, place: Place) -> Result<(), Al
     let Some((least, most)) = limits(scope, place) else {
         return text.extend_from_slice(b"-\t-\t-\t");
     };
-    push_number(text, least)?;
-    text.push(b'\t')?;
+    push_count(text, Some(least))?;
     match place {
-        Agent => text.extend_from_slice(b"agents\t")?,
-        Server => text.extend_from_slice(b"servers\t")?,
-        _ => {
-            push_number(text, most)?;
-            text.push(b'\t')?;
-        }
+        Agent => push_field(text, b"agents")?,
+        Server => push_field(text, b"servers")?,
+        _ => push_count(text, Some(most))?,
     }
-    text.extend_from_slice(match place {
-        Servers | Agents => b"G1\t",
-        Budget | Quota | Slots => b"G3\t",
-        _ => b"S1\t",
-    })
+    match place {
+        Servers | Agents => push_field(text, b"G1"),
+        Budget | Quota | Slots => push_field(text, b"G3"),
+        _ => push_field(text, b"S1"),
+    }
 }
 
 /// The lines of a command's scripts, by the command's name.
@@ -122,14 +117,13 @@ pub(crate) fn table(alloc: Global) -> Result<Vec<u8>, AllocError> {
         text.push(b'\n')?;
     }
     for (command, forms) in COMMANDS {
-        let header: (&[u8], &[LineForm]) = (b"header", forms.header);
-        let optional: (&[u8], &[LineForm]) = (b"option", forms.optional);
-        for (part, forms) in [
-            header,
-            optional,
+        let parts: [(&[u8], &[LineForm]); 4] = [
+            (b"header", forms.header),
+            (b"option", forms.optional),
             (b"name", forms.names),
             (b"own", forms.own),
-        ] {
+        ];
+        for (part, forms) in parts {
             for form in forms {
                 push_form(&mut text, &[b"line", command, part], *form)?;
             }

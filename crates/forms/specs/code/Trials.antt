@@ -1,15 +1,15 @@
 -- What a trial of a line comes to, by the fields of the code.
-use Rattle.std.specs.Prelude.{◌≡◌, ℕ, Bool, true, is_some, List, ◌++◌, Contains, Option, None}
+use Rattle.std.specs.Prelude.{◌≡◌, ℕ, ◌⊎◌, Bool, true, is_some, List, ◌++◌, Contains, Option, None, Result, Ok, Err}
 use Rattle.suite_script.specs.Words.{Word}
 use Rattle.suite_script.specs.declared.fault.LineFault.{LineFault}
+use Rattle.suite_script.specs.declared.fault.LineFault.TheVariants as line
 use Rattle.suite_script.specs.declared.form.Forms.{Forms}
+use Rattle.suite_script.specs.declared.form.LineForm.{LineForm}
 use Rattle.forms.specs.Answers.{IsFaultOf, IsFound}
 use Rattle.forms.specs.Mends.{AreMends, AreTold, Edit, Without, IsCut, IsMissing, IsShift, IsTooMany, Mends, all_of, form_in, placed}
 use Rattle.forms.specs.declared.mend.Change.{Change}
 use Rattle.forms.specs.declared.mend.Change.TheVariants as code
 use Rattle.forms.specs.declared.mend.Trial.{Trial}
-use Rattle.forms.specs.declared.reading.Standing.{Standing}
-use Rattle.forms.specs.declared.reading.Standing.TheVariants.{Here, Misplaced, Unknown}
 
 -- a change by the words that it names
 abbrev pub change_of : Change → Edit
@@ -17,10 +17,10 @@ change_of code.Without = Without
 change_of (code.Placed is_before other) = placed is_before other.now
 
 -- a line that stands in its place, or out of it, begins with the word of one of the forms; another one does not
-abbrev pub StandsIn : Forms → Word → Standing → Type 0
-StandsIn forms word (Here form) = Contains (all_of forms) form × (form.word.now ≡ word)
-StandsIn forms word Misplaced = is_some (form_in forms word) ≡ true
-StandsIn forms word Unknown = form_in forms word ≡ None
+abbrev pub StandsIn : Forms → Word → Result LineForm LineFault → Type 0
+StandsIn forms word (Ok form) = Contains (all_of forms) form × (form.word.now ≡ word)
+StandsIn forms word (Err fault) =
+    ((fault ≡ line.Order) × (is_some (form_in forms word) ≡ true)) ⊎ ((fault ≡ line.Form) × (form_in forms word ≡ None))
 
 -- what is found of the line, and of words
 abbrev pub IsFoundIn : Trial → ℕ → Option LineFault → Type 0

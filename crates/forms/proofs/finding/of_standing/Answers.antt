@@ -4,12 +4,12 @@ use Rattle.forms.proofs.finding.of_standing.Goals as goal
 
 pub returns-then-is_some : goal.returns-then-is_some
 returns-then-is_some c =
-    found_again c.args.trial.reading.now.scope c.args.trial.reading.now.forms c.args.form.word.now c.args.words c.of_whole.result.number c.of_whole.result.fault
-    (subst (λ (text : List ℕ). bytes_eq c.args.form.word.now text ≡ true) c.as_slice.ensures (sym c.if-eq.ensures)) c.of_whole.ensures.number c.of_whole.ensures.fault
+    found_again c.args.trial.reading.now.scope c.args.trial.reading.now.forms c.args.form.word.now c.args.words c.of_line.result.number c.of_line.result.fault
+    (subst (λ (text : List ℕ). bytes_eq c.args.form.word.now text ≡ true) c.as_slice.ensures (sym c.if-eq.ensures)) c.of_line.ensures.number c.of_line.ensures.fault
 
 pub returns-then-not-branch : goal.returns-then-not-branch
 returns-then-not-branch c =
-    let whole = c.of_whole-then-not-branch in
+    let whole = c.of_line-then-not-branch in
     found_large c.args.trial.reading.now.scope c.args.trial.reading.now.forms c.args.form.word.now c.args.words whole.result.number whole.result.fault
     (subst (λ (text : List ℕ). bytes_eq c.args.form.word.now text ≡ true) c.as_slice-2.ensures (sym c.if-eq-2.ensures)) whole.ensures.number whole.ensures.fault
 
