@@ -88,6 +88,9 @@ def grants(node: Node, caller: Caller, wanted: int) -> bool:
     return entries["o", 0] & wanted == wanted
 
 
+Same = typing.TypeVar("Same", bound="Table")
+
+
 class Table:
     """The table: nodes by their numbers, of which 0 is the root folder."""
 
@@ -97,6 +100,9 @@ class Table:
     def permit(self, node: Node, caller: Caller, wanted: int) -> None:
         if not grants(node, caller, wanted):
             raise Refused("denied")
+
+    def owns(self, node: Node, caller: Caller) -> bool:
+        return caller.uid == node.owner
 
     def names(self, node: Node) -> dict[str, int]:
         if isinstance(node.holds, str):
@@ -128,15 +134,16 @@ class Table:
         if names and given and given.default and not is_folder:
             raise Refused("F12")
         folder, name = self.parent(caller, names)
-        default = self.nodes[folder].lists.default
-        if name in self.names(self.nodes[folder]):
+        above = self.nodes[folder]
+        default, inside = above.lists.default, self.names(above)
+        if name in inside:
             raise Refused("F5")
         if not given:
             mode = int(init, 8)
             access = of_mode(mode) if default is None else inherited(default, mode)
             given = Lists(access, default if is_folder else None)
         number = len(self.nodes)
-        self.names(self.nodes[folder])[name] = number
+        self.nodes[folder] = above._replace(holds={**inside, name: number})
         self.nodes[number] = Node(caller.uid, caller.gids[0], given, {} if is_folder else "")
         return "made"
 
@@ -147,7 +154,8 @@ class Table:
             raise Refused("F4")
         if self.nodes[inside[name]].holds and not isinstance(self.nodes[inside[name]].holds, str):
             raise Refused("F7")
-        del inside[name]
+        left = {one: number for one, number in inside.items() if one != name}
+        self.nodes[folder] = self.nodes[folder]._replace(holds=left)
         return "dropped"
 
     def operation(self, caller: Caller, words: list[str]) -> str:
@@ -162,13 +170,13 @@ class Table:
         node = self.nodes[number]
         if verb == "setacl":
             lists = lists_of(more[0])
-            if caller.uid != node.owner:
+            if not self.owns(node, caller):
                 raise Refused("denied")
             if lists.default and isinstance(node.holds, str):
                 raise Refused("F12")
             self.nodes[number] = node._replace(lists=lists)
             return "set"
-        if verb != "getacl" or caller.uid != node.owner:
+        if verb != "getacl" or not self.owns(node, caller):
             self.permit(node, caller, WRITE if verb == "write" else READ)
         if verb == "getacl":
             return f"acl {text_of(node.lists)}"
@@ -187,11 +195,12 @@ class Table:
         self.permit(node, caller, sum(BITS[letter] for letter in wanted))
         return "granted"
 
-    def call(self, caller: Caller, operations: list[list[str]]) -> tuple["Table", str]:
+    def call(self: Same, caller: Caller, operations: list[list[str]]) -> tuple[Same, str]:
         """The table after a call, and what is answered: `answered` and the replies, or why it is refused. A test is no
         operation, and leaves the table as it is.
         """
-        after, replies = copy.deepcopy(self), list[str]()
+        after, replies = copy.copy(self), list[str]()
+        after.nodes = dict(self.nodes)
         if operations[0][0] == "test":
             try:
                 return self, f"answered {self.test(caller, *operations[0][1:])}"
