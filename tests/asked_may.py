@@ -1,15 +1,16 @@
-"""Asks `./suites may` in this process, by its words, and reads what it tells."""
+"""Asks `./suites may` in this process, by its words, and reads what it tells; and of a name, what Linux then does."""
 import contextlib
 import io
 import os
 import re
+import subprocess
 from typing import Iterable, Iterator, NamedTuple
 
 import played  # noqa: F401
 
 from may import command, mounts, people, scripts
 
-from kernel_trees import DENIED, GRANTED, UNJUDGED, UNREAD, User, letters
+from kernel_trees import DENIED, FULL, GRANTED, UNJUDGED, UNREAD, User, as_user, kept, letters, made, taken
 
 SENTENCE = re.compile(r"(?:\S+|\"[^\"]*\") \(\d+; groups [\d, ]+\) may( not)? ")
 
@@ -77,3 +78,35 @@ def unquoted(shown: str) -> str:
     )
     return os.fsdecode(found)
 
+
+def named_in(lines: list[str]) -> set[str]:
+    """Whom the first line of --who names."""
+    return set(lines[0].rpartition("  ")[2].replace(",", " ").replace(";", " ").split())
+
+
+def is_there(path: str) -> bool:
+    return os.path.lexists(path.rstrip("/") or "/")
+
+
+def deletes(user: User, path: str) -> tuple[str, str, str]:
+    """What is told of taking a name away, and what Linux does; what was taken is put back."""
+    name = path.rstrip("/")
+    is_folder = os.path.isdir(name) and not os.path.islink(name) or path.endswith("/")
+    told, line = sentences(user, "delete", [path])[0]
+    put_back = kept(path)
+    said = as_user(user, lambda: taken(path, is_folder))
+    if not is_there(path):
+        put_back()
+    # a folder with names, and what something is mounted on, are told as such
+    return told, DENIED if said == FULL else said, line
+
+
+def creates(user: User, path: str) -> tuple[str, str, str]:
+    """What is told of making a name, and what Linux does; what was made is taken away again."""
+    was_there = is_there(path)
+    told, line = sentences(user, "create", [path])[0]
+    said = as_user(user, lambda: made(path))
+    if said == GRANTED:
+        subprocess.run(["chattr", "-a", os.path.dirname(path.rstrip("/"))], stderr=subprocess.DEVNULL)
+        taken(path.rstrip("/"), path.endswith("/"))
+    return told, DENIED if said == UNREAD and was_there else said, line

@@ -17,7 +17,6 @@ are wanting, and ends well: so `./suites --test` runs some questions.
 import argparse
 import os
 import shutil
-import subprocess
 import tempfile
 from typing import Callable
 
@@ -27,7 +26,7 @@ import kernel_trees as trees
 import may_cases
 import may_changes
 import played
-from asked_may import accounts, may, sentences, unquoted, wanted
+from asked_may import accounts, creates, deletes, is_there, may, named_in, sentences, unquoted, wanted
 from kernel_trees import DENIED, GRANTED, UNJUDGED, Dice, Tree, User, letters, tried
 from may_changes import Count, users_of
 
@@ -48,34 +47,6 @@ def ask_users(dice: Dice, tree: Tree, until: int, count: Count) -> None:
         count.asked += len(some)
 
 
-def is_there(path: str) -> bool:
-    return os.path.lexists(path.rstrip("/") or "/")
-
-
-def ask_deletes(user: User, path: str) -> tuple[str, str, str]:
-    """What is told of taking a name away, and what Linux does; what was taken is put back."""
-    name = path.rstrip("/")
-    is_folder = os.path.isdir(name) and not os.path.islink(name) or path.endswith("/")
-    told, line = sentences(user, "delete", [path])[0]
-    put_back = trees.kept(path)
-    said = trees.as_user(user, lambda: trees.taken(path, is_folder))
-    if not is_there(path):
-        put_back()
-    # a folder with names, and what something is mounted on, are told as such
-    return told, DENIED if said == trees.FULL else said, line
-
-
-def ask_creates(user: User, path: str) -> tuple[str, str, str]:
-    """What is told of making a name, and what Linux does; what was made is taken away again."""
-    was_there = is_there(path)
-    told, line = sentences(user, "create", [path])[0]
-    said = trees.as_user(user, lambda: trees.made(path))
-    if said == GRANTED:
-        subprocess.run(["chattr", "-a", os.path.dirname(path.rstrip("/"))], stderr=subprocess.DEVNULL)
-        trees.taken(path.rstrip("/"), path.endswith("/"))
-    return told, DENIED if said == trees.UNREAD and was_there else said, line
-
-
 def ask_names(dice: Dice, tree: Tree, until: int, count: Count) -> None:
     """May this user make a name, or take it away?"""
     while count.asked < until:
@@ -84,19 +55,14 @@ def ask_names(dice: Dice, tree: Tree, until: int, count: Count) -> None:
         if path.endswith("/.") or path.endswith("/..") or path.endswith("//"):
             path = tree.paths[0]
         if is_there(path) and dice.random() < 0.7:
-            told, said, line = ask_deletes(user, path)
+            told, said, line = deletes(user, path)
         else:
             folder = path if os.path.isdir(path) else os.path.dirname(path)
             new = os.path.join(folder, "new" + dice.choice(["", "", "/"]))
-            told, said, line = ask_creates(user, path if is_there(path) and dice.random() < 0.3 else new)
+            told, said, line = creates(user, path if is_there(path) and dice.random() < 0.3 else new)
         count.left += told == UNJUDGED
         if told not in (said, UNJUDGED):
             count.differs(f"{path!r} {user}", told, said, [line])
-
-
-def named_in(lines: list[str]) -> set[str]:
-    """Whom the first line of --who names."""
-    return set(lines[0].rpartition("  ")[2].replace(",", " ").replace(";", " ").split())
 
 
 def ask_who(dice: Dice, tree: Tree, until: int, count: Count) -> None:

@@ -13,13 +13,14 @@ from typing import Callable, Iterator
 
 import kernel_trees as trees
 import played  # noqa: F401
-from asked_may import accounts, forget, may, outcome, sentences
-from kernel_trees import DENIED, GRANTED, UNJUDGED, UNREAD, User, tried as tries
+from asked_may import accounts, creates, deletes, forget, may, named_in, outcome, sentences
+from kernel_trees import DENIED, GRANTED, UNJUDGED, UNREAD, User, tried as tried_by
 from may_changes import Count, powers
 
 from may import linux
 
-LISA, BOB = User(1001, 201, (), "n1001"), User(1002, 202, (), "n1002")
+LISA, BOB, THIRD = (User(uid, uid - 800, (), f"n{uid}") for uid in (1001, 1002, 1003))
+ROOT = User(0, 0, (), "root")
 # A label, what is told, and what is wanted.
 Case = Iterator[tuple[str, object, object]]
 PROGRAM = b"\x7fELF, or not\n"
@@ -54,6 +55,15 @@ class Room:
         os.lchown(path, owner, 0)
         return path
 
+    def entries(self, name: str, entries: str) -> None:
+        """Puts entries into the list of a file."""
+        subprocess.run(["setfacl", "-m", entries, "--", self.path(name)], check=True)
+
+    def lint(self, users: list[User]) -> list[str]:
+        """What is to be mended, where these are all that have an account."""
+        with accounts(users):
+            return may([f"--lint={self.top}"]).lines
+
     def mount(self, path: str, *words: str) -> None:
         subprocess.run(["mount", *words, path], check=True)
         self.mounted.append(path)
@@ -67,10 +77,25 @@ class Room:
         forget()
 
 
+def meets(user: User, verb: str, path: str) -> str:
+    """What a user meets who tries it."""
+    perms = sum(bit for letter, bit in (("r", 4), ("w", 2), ("x", 1)) if letter in verb)
+    return tried_by(user, [(path, perms)])[0]
+
+
 def both(user: User, verb: str, path: str) -> tuple[str, str]:
     """What is told of a user and a path, and what Linux does."""
-    perms = sum(bit for letter, bit in (("r", 4), ("w", 2), ("x", 1)) if letter in verb)
-    return sentences(user, verb, [path])[0][0], tries(user, [(path, perms)])[0]
+    return sentences(user, verb, [path])[0][0], meets(user, verb, path)
+
+
+def under(verb: str, top: str, user: User = LISA) -> tuple[int, list[str]]:
+    """The status of a walk, and the paths that it tells."""
+    told = may([*user.words(), verb, f"--under={top}"])
+    return told.status, [line.split("  ")[0] for line in told.lines]
+
+
+def if_so(is_so: bool) -> str:
+    return GRANTED if is_so else DENIED
 
 
 # ---- words
@@ -113,8 +138,7 @@ def planted(room: Room) -> Case:
     room.file(b"c\xff", 0o755, b"#!/\xff\xfe \n")
     os.mkfifo(room.path("p"))
     room.file("z", 0o755)
-    told = may([*LISA.words(), "x", f"--under={room.top}"])
-    yield "all are told", [line.split("  ")[0] for line in told.lines][-1], room.path("z")
+    yield "all are told", under("x", room.top)[1][-1], room.path("z")
     for path in map(room.path, ("a", "b", os.fsdecode(b"c\xff"), "p", "z")):
         yield f"{path!r}", *both(LISA, "x", path)
 
@@ -135,8 +159,8 @@ def flips(room: Room) -> Case:
     thread.start()
     try:
         for _ in range(50):
-            told = may([*LISA.words(), "x", f"--under={room.top}"])
-            if told.status not in (0, 3):
+            told = under("x", room.top)
+            if told[0] not in (0, 3):
                 yield "a walk", told, "ends"
         yield "walks end", True, True
     finally:
@@ -157,19 +181,15 @@ def under_links(room: Room) -> Case:
         room.link(name, target)
     for top, files in (("to-closed", ["f"]), ("to-open", ["d/f", "m/f"]), ("up/..", ["d/g", "f"])):
         for verb in ("r", "w"):
-            told = may([*LISA.words(), verb, f"--under={room.path(top)}"])
-            may_it = {line.split("  ")[0] for line in told.lines}
-            for name in files:
-                path = f"{room.path(top)}/{name}"
-                yield f"{verb} {path}", GRANTED if path in may_it else DENIED, tries(
-                    LISA, [(path, 4 if verb == "r" else 2)]
-                )[0]
+            may_it = under(verb, room.path(top))[1]
+            for path in (f"{room.path(top)}/{name}" for name in files):
+                yield f"{verb} {path}", if_so(path in may_it), meets(LISA, verb, path)
     os.chmod(room.path("open/d/f"), 0o666)
     with accounts([LISA]):
         told = may([f"--lint={room.path('to-open')}"])
     found = f"{room.path('to-open')}/d/f: all may write it"
     yield "lint looks behind a link", any(found in one for one in told.lines), True
-    yield "a link at the end of a tree's name", may([*LISA.words(), "r", f"--under={room.path('to-open')}/"]).status, 0
+    yield "a link at the end of a tree's name", under("r", f"{room.path('to-open')}/")[0], 0
 
 
 # ---- scripts
@@ -210,7 +230,7 @@ def chains(room: Room) -> Case:
         yield f"a chain of {count}", *both(LISA, "x", before)
         with accounts([LISA, BOB]):
             told = may(["--who", "x", before])
-        yield f"who, a chain of {count}", LISA.name in told.lines[0], tries(LISA, [(before, 1)])[0] == GRANTED
+        yield f"who, a chain of {count}", if_so(LISA.name in told.lines[0]), meets(LISA, "x", before)
     os.chmod(room.path("c0"), 0o644)
     forget()
     for name in ("c5", "c6"):
@@ -228,10 +248,9 @@ def scripts_everywhere(room: Room) -> Case:
         who, with_it = may(["--who", "x", script]).lines, may(["--with", "u:1002:rwx", program]).lines
         of_script = may(["--with", "o::r", script]).lines
     for user in users:
-        linux = tries(user, [(script, 1)])[0]
-        yield f"who {user.name}", GRANTED if user.name in who[0].rpartition("  ")[2] else DENIED, linux
-        under = may([*user.words(), "x", f"--under={room.top}"]).lines
-        yield f"under {user.name}", GRANTED if any(line.startswith(f"{script}  ") for line in under) else DENIED, linux
+        said = meets(user, "x", script)
+        yield f"who {user.name}", if_so(user.name in named_in(who)), said
+        yield f"under {user.name}", if_so(script in under("x", room.top, user)[1]), said
     yield "with, of the interpreter", with_it[1:], ["  gains rwx: n1002"]
     yield "with, of the script: bob could not execute it before", of_script[1:], ["  loses x: n1001"]
 
@@ -252,7 +271,7 @@ def odd_points(room: Room) -> Case:
         yield f"{name!r}", *both(LISA, "w", os.path.join(path, "f"))
         told = may([*LISA.words(), "w", "--", os.path.join(path, "f")])
         yield f"{name!r} is shown in a line", all(line.isprintable() for line in told.lines), True
-    yield "/ is no other mount", *both(User(0, 0, ()), "w", "/")
+    yield "/ is no other mount", *both(ROOT, "w", "/")
 
 
 def mount_points(room: Room) -> Case:
@@ -262,20 +281,15 @@ def mount_points(room: Room) -> Case:
     room.mount(room.path("b"), "--bind", room.path("a"))
     room.mount(room.path("a/m"), "-t", "tmpfs", "none")
     for name in ("a/m", "b/m", "a/n", "b/n"):
-        told = sentences(LISA, "delete", [room.path(name)])[0][0]
-        said = trees.as_user(LISA, lambda: trees.taken(room.path(name), True))
-        if said == GRANTED:
-            os.mkdir(room.path(name), 0o777)
-        yield f"delete {name}", told, DENIED if said == trees.FULL else said
+        yield f"delete {name}", *deletes(LISA, room.path(name))[:2]
 
 
 def kernel_folders(room: Room) -> Case:
     """Which names are made in /proc, /dev/pts and /sys is not judged."""
     for path in ("/proc/new", "/dev/pts/new", "/sys/new"):
         for verb in ("create", "delete"):
-            told = sentences(User(0, 0, ()), verb, [path])[0][0]
-            yield f"root {verb} {path}", told in (UNJUDGED, UNREAD), True
-    with accounts([User(0, 0, (), "root")]):
+            yield f"root {verb} {path}", sentences(ROOT, verb, [path])[0][0] in (UNJUDGED, UNREAD), True
+    with accounts([ROOT]):
         yield "who create /proc/new", may(["--who", "create", "/proc/new"]).status, 3
 
 
@@ -312,13 +326,12 @@ def of_sticky_links(room: Room) -> Case:
     room.link("sticky/l", room.path("d"), 1002), room.link("sticky/g", room.path("d/f"), 1002)
     room.link("to", room.path("sticky/l"), 0), room.link("sticky/mine", room.path("d"), 1001)
     for name in ("sticky/l", "sticky/l/", "sticky/l/.", "sticky/l/f", "sticky/g", "to", "to/f", "to/", "sticky/mine"):
-        for user in (LISA, BOB, User(0, 0, ())):
+        for user in (LISA, BOB, ROOT):
             yield f"{name} {user.uid}", *both(user, "r", room.path(name))
     for name in ("sticky/l", "to"):
-        told = may([*LISA.words(), "r", f"--under={room.path(name)}"]).lines
+        may_it = under("r", room.path(name))[1]
         for path in (room.path(name), f"{room.path(name)}/f"):
-            says = any(line.startswith(f"{path}  ") for line in told)
-            yield f"under {name}: {path}", GRANTED if says else DENIED, tries(LISA, [(path, 4)])[0]
+            yield f"under {name}: {path}", if_so(path in may_it), meets(LISA, "r", path)
 
 
 def slashes(room: Room) -> Case:
@@ -329,12 +342,7 @@ def slashes(room: Room) -> Case:
     for name in ("d", "d/", "d/.", "d//", "d/..", "f/", "f/.", "l/", "l/.", "m/", "n", "o", "o/", "."):
         yield f"r {name}", *both(LISA, "r", room.path(name))
     for name in ("f/", "l/", "m/", "d/", "f", "l"):
-        told = sentences(LISA, "delete", [room.path(name)])[0][0]
-        is_folder, back = name.endswith("/"), trees.kept(room.path(name))
-        said = trees.as_user(LISA, lambda: trees.taken(room.path(name), is_folder))
-        if said == GRANTED:
-            back()
-        yield f"delete {name}", told, said
+        yield f"delete {name}", *deletes(LISA, room.path(name))[:2]
 
 
 def growing_paths(room: Room) -> Case:
@@ -352,7 +360,7 @@ def growing_paths(room: Room) -> Case:
         os.chdir(here)
     yield "a path that grows", sentences(LISA, "r", [room.path("l/l/l/l/l/l/f")])[0][0], UNJUDGED
     yield "one that grows less", *both(LISA, "r", room.path("l/l/l"))
-    yield "under it", may([*LISA.words(), "r", f"--under={room.top}"]).status, 3
+    yield "under it", under("r", room.top)[0], 3
 
 
 # ---- snapshots
@@ -372,8 +380,7 @@ def snapshots(room: Room) -> Case:
         for verb in ("r", "w"):
             yield f"{verb} {name}", *both(LISA, verb, room.path(name))
     for name in ("s/new", "k/new", "k/d/new"):
-        said = trees.as_user(LISA, lambda: trees.made(room.path(name)))
-        yield f"create {name}", sentences(LISA, "create", [room.path(name)])[0][0] if name != "s/new" else said, said
+        yield f"create {name}", *creates(LISA, room.path(name))[:2]
     for name in ("k", "s"):
         words = ["btrfs", "subvolume", "delete", room.path(name)]
         subprocess.run(words, check=True, stdout=subprocess.DEVNULL)
@@ -384,14 +391,13 @@ def snapshots(room: Room) -> Case:
 
 def advice(room: Room) -> Case:
     """What lint advises harms nobody, adds to what an entry has, and is typed as it is told."""
-    users = [LISA, BOB, User(1003, 203, (), "n1003")]
+    users = [LISA, BOB, THIRD]
     name = "o'dd $(x)\n\x1b[31m\udcff"
     room.folder(name, 0o750)
     inside = room.file(os.path.join(name, "f"), 0o640)
-    subprocess.run(["setfacl", "-m", "u:1001:r", "--", room.path(name)], check=True)
-    subprocess.run(["setfacl", "-m", "u:1001:r", "--", inside], check=True)
-    with accounts(users):
-        told = may([f"--lint={room.top}"]).lines
+    for path in (name, inside):
+        room.entries(path, "u:1001:r")
+    told = room.lint(users)
     line = next((one for one in told if "reaches nobody" in one and ": setfacl " in one), "")
     yield "lines are printable", all(one.isprintable() for one in told), True
     yield "there is an advice, which keeps r", "u:1001:r-x" in line, True
@@ -405,14 +411,11 @@ def advice(room: Room) -> Case:
 
 def no_harm(room: Room) -> Case:
     """Where a change would harm somebody, or help another, the finding alone is told."""
-    users = [LISA, BOB, User(1003, 203, (), "n1003")]
     room.folder("d", 0o755), room.file("d/f", 0o644)
     # the mask takes x from bob: a wider one would give it to him too
-    subprocess.run(["setfacl", "-m", "u:1001:---,u:1002:rwx,m::r", "--", room.path("d")], check=True)
-    subprocess.run(["setfacl", "-m", "u:1001:r", "--", room.path("d/f")], check=True)
-    with accounts(users):
-        told = may([f"--lint={room.top}"]).lines
-    found = [one for one in told if "reaches nobody" in one]
+    room.entries("d", "u:1001:---,u:1002:rwx,m::r")
+    room.entries("d/f", "u:1001:r")
+    found = [one for one in room.lint([LISA, BOB, THIRD]) if "reaches nobody" in one]
     yield "it is found", len(found), 1
     yield "nothing is advised", any("setfacl" in one for one in found), False
 
@@ -421,9 +424,8 @@ def more_findings(room: Room) -> Case:
     """All may write a folder that is not sticky, an entry of the owner, a group with less, owners without accounts."""
     room.folder("w", 0o777), room.folder("t", 0o1777), room.file("g", 0o604), room.file("o", 0o640)
     os.chown(room.path("o"), 1001, 4242)
-    subprocess.run(["setfacl", "-m", "u:1001:rw", "--", room.path("o")], check=True)
-    with accounts([LISA, BOB]):
-        told = may([f"--lint={room.top}"]).lines
+    room.entries("o", "u:1001:rw")
+    told = room.lint([LISA, BOB])
     for name, part in (("w", "not sticky"), ("g", "its group has less than all others"), ("o", "is of the owner"),
                        ("o", "its owner 1001 has no account"), ("o", "its group 4242 has no entry")):
         yield f"{name}: {part}", any(one.startswith(f"{room.path(name)}: ") and part in one for one in told), True
@@ -435,7 +437,7 @@ def more_findings(room: Room) -> Case:
 
 def who_names(room: Room) -> Case:
     """Who may make a name, and take one away."""
-    users = [LISA, BOB, User(0, 0, (), "root")]
+    users = [LISA, BOB, ROOT]
     room.folder("d", 0o1777), room.file("d/f")
     os.chown(room.path("d/f"), 1001, 0)
     for verb, name in (("create", "d/new"), ("create", "d/f"), ("create", "new"), ("delete", "d/f"), ("delete", "d")):
@@ -443,8 +445,7 @@ def who_names(room: Room) -> Case:
             told = may(["--who", verb, room.path(name)]).lines
         for user in users:
             one = sentences(user, verb, [room.path(name)])[0][0]
-            says = GRANTED if user.name in told[0].rpartition("  ")[2] else DENIED
-            yield f"who {verb} {name}: {user.name}", says, one
+            yield f"who {verb} {name}: {user.name}", if_so(user.name in named_in(told)), one
     yield "who create d/new is tried", trees.as_user(BOB, lambda: trees.made(room.path("d/new"))), GRANTED
     yield "who delete d/f is tried", trees.as_user(BOB, lambda: trees.taken(room.path("d/f"), False)), DENIED
 
