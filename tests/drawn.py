@@ -14,7 +14,7 @@ import xml.etree.ElementTree as etree
 import played
 import traced
 from played import Tally
-from scripting import header, job
+from scripting import job, script_of
 
 from common import built, text_of, tool
 from compare import scenario
@@ -29,10 +29,6 @@ SIZE, LETTER, ABOVE, BELOW = 11, 1233 / 2048, 9, 2
 SCREEN = 700
 SVG = "{http://www.w3.org/2000/svg}"
 LONG = "/a-name-of-more-letters-than-there-is-room-for-between-two-lines"
-
-
-def script_of(servers: int, agents: int, votes: str, *lines: str) -> str:
-    return header(servers, agents, votes, cache="4096 4096 16") + "".join(f"{line}\n" for line in lines)
 
 
 def begun(agent: int, asked: str, uid: int = 1000) -> str:

@@ -22,6 +22,11 @@ def header(
     return "".join(f"{word} {value}\n" for word, value in told.items() if value is not None)
 
 
+def script_of(servers: int, agents: int, votes: str, *lines: str) -> str:
+    """A script of these lines, whose agents keep something."""
+    return header(servers, agents, votes, cache="4096 4096 16") + "".join(f"{line}\n" for line in lines)
+
+
 def equal_votes(servers: int) -> str:
     """One vote for each server, and for a read and a write more than half of them."""
     quorum = servers // 2 + 1

@@ -18,14 +18,13 @@ import browser
 import played
 import traced
 from played import Tally
-from scripting import header
+from scripting import script_of
 
 from common import console, text_of
 from compare import scenario
 from show import show
 from trace import states
 
-COPY = re.compile(r"    suite (\d+) \w+ prefix (\d+) content (\d+) votes")
 LOCK = re.compile(r"    t (\d+) suite (\d+) (shared|exclusive)( prepared)?$")
 # The most bytes of the page of a story, and the most milliseconds of a step.
 MOST_BYTES, MOST_STEP = 250_000, 40
@@ -61,15 +60,11 @@ class Pages:
         return self.driver.value(SEEN)
 
 
-def script_of(*lines: str, servers: int = 3, agents: int = 2, votes: str = "1,1,1/2/2") -> str:
-    return header(servers, agents, votes, cache="4096 4096 16") + "".join(f"{line}\n" for line in lines)
-
-
 def ended(lines: list[str]) -> list[dict]:
     """What servers have at the end of a trace, as the page shows it."""
     servers: list[dict] = []
     for line in lines:
-        copy, lock = COPY.match(line), LOCK.match(line)
+        copy, lock = traced.COPY.match(line), LOCK.match(line)
         if line.startswith("= server"):
             servers.append({"up": line.endswith(" up"), "copies": [], "locks": []})
         elif servers and copy:
@@ -174,8 +169,8 @@ def hostile(tally: Tally, pages: Pages) -> None:
     """What bytes hold, and names of users in a script, stays text."""
     digits = EVIL.encode().hex()
     asked = f"file /a u::rw,u:{NAMED}:rw,g::r,m::rw,o::- ; write /a {digits}"
-    pages.open(script_of(f"user {NAMED} 1001", f"begin 0 1000 100 0 {asked}",
-                         "run 0", "begin 0 1000 100 0 read /a", "run 0"))
+    lines = f"user {NAMED} 1001", f"begin 0 1000 100 0 {asked}", "run 0", "begin 0 1000 100 0 read /a", "run 0"
+    pages.open(script_of(3, 2, "1,1,1/2/2", *lines))
     pages.driver.press("End")
     driver = pages.driver
     tally.holds(driver.value("document.images.length") == 0, "an image came of a name or of bytes")
@@ -238,7 +233,7 @@ def large(requests: int) -> str:
         lines += [f"crash {number % 5}"] if number % 7 == 3 else []
         lines += [f"begin {agent} 1000 100 {number % 2} {asked}", f"run {agent}"]
         lines += [f"return {(number - 1) % 5}"] if number % 7 == 4 else []
-    return script_of(*lines, servers=5, agents=3, votes="1,1,1,1,1/3/3")
+    return script_of(5, 3, "1,1,1,1,1/3/3", *lines)
 
 
 def many(tally: Tally, pages: Pages) -> None:

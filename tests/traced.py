@@ -2,7 +2,6 @@
 its events against them.
 """
 import re
-import subprocess
 import sys
 from collections.abc import Iterable, Iterator
 
@@ -19,10 +18,10 @@ NAMES = re.compile(r"suite (\d+)\b[^;:]*(?:: given, content \d+)? names((?: \S+=
 
 def lines_of(script: str) -> list[str]:
     """The lines that the program prints of a script; ends the test where it does not play it to its end."""
-    done = subprocess.run([built.program(), "trace"], input=script.encode("latin1"), stdout=subprocess.PIPE)
-    if done.returncode != 0:
-        sys.exit(f"trace ends with status {done.returncode}: {done.stdout[:200]!r} of\n{script}")
-    return done.stdout.decode("latin1").split("\n")[:-1]
+    status, text = built.asked("trace", script)
+    if status != 0:
+        sys.exit(f"trace ends with status {status}: {text[:200]!r} of\n{script}")
+    return text.split("\n")[:-1]
 
 
 def blocks(lines: Iterable[str]) -> Iterator[tuple[str, list[str]]]:
