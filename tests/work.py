@@ -58,7 +58,7 @@ PAIRS: tuple[tuple[str, Make, Make, int, float], ...] = (
     ("a content is read once: in a folder of 160 names, of 8", folder_of(160), folder_of(8), 40, 1.5),
     ("a prefix is read once: of a list of 120 users, of 2", list_of(120), list_of(2), 40, 1.2),
     ("who holds is looked up: beside 1,600 locks, 3", lists_left(1600), lists_left(3), 40, 1.6),
-    ("votes are counted once: with 24 servers that have none, without", all_down("0"), all_down("-"), 40, 1.04),
+    ("votes are counted once a reply: with 24 servers that have none, without", all_down("0"), all_down("-"), 40, 1.12),
 )
 
 
