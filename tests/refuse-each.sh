@@ -5,7 +5,7 @@
 # its second, .. allocation refused, until none is left to refuse. Each answer has to be the full output with its
 # status, or status 4 with `fault memory` after a beginning of the output that ends with a line; never another. Then the
 # same, where every allocation from that one on is refused. Status 1 where an answer differs, and where no allocation
-# was refused (`trace` with wrong words, or asked for help, takes none).
+# was refused.
 #
 # The full output is the one that a row of crates/rows has for this file and these words, where there is one; else it is
 # what the program prints with ample memory. Of `trace` the lines of `play` have to be those of the row.
@@ -130,10 +130,7 @@ refuse_each() {
         told="$memory times status 4, $whole times the full output"
         [ "$served" -eq 1 ] && told="$told, $other times other ends of jobs"
         echo "$words < ${input##*/}: $reach refused: $tried allocations, $told"
-        case $words in
-        'trace no' | 'trace --help') [ "$tried" -eq 0 ] || tell "$words takes memory" ;;
-        *) [ "$tried" -gt 0 ] || tell "$words < ${input##*/}: no allocation was refused ($reach)" ;;
-        esac
+        [ "$tried" -gt 0 ] || tell "$words < ${input##*/}: no allocation was refused ($reach)"
         refused=$((refused + tried)) memories=$((memories + memory)) wholes=$((wholes + whole)) others=$((others + other))
     done
 }
@@ -144,7 +141,7 @@ else
     for input in "$here"/examples/*/*"${ONLY-}"*; do
         folder=${input%/*}
         case ${folder##*/} in
-        session) ;; # tests/session.py
+        session | explore) ;; # tests/session.py, tests/small.py
         acl) refuse_each "$input" acl user:lisa=1001 ;;
         serve) refuse_each "$input" serve --agents "${AGENTS:-4}" ;;
         play)
