@@ -46,7 +46,7 @@ ERRORS = {
     "few-to-write": Planted("crates/suite_collect/src/due.rt", "u32::from(votes.w())", "u32::from(votes.w() - 1)"),
     "few-to-read": Planted("crates/suite_collect/src/due.rt", "u32::from(votes.r())", "u32::from(votes.r() - 1)"),
     "aborted": Planted(
-        "crates/rep_core/src/server_state.rt", "self.store.finish(t, answered)", "self.store.finish(t, true)"
+        "crates/rep_core/src/server.rt", "self.store.finish(t, answered)", "self.store.finish(t, true)"
     ),
 }
 
