@@ -12,6 +12,7 @@ import tempfile
 
 import played
 import scratch
+import taken
 
 from common import crates, text_of
 
@@ -62,8 +63,9 @@ def named(texts: dict[str, str]) -> list[str]:
 
 
 def unused() -> list[str]:
-    """The files of tests/programs that belong to no program."""
+    """The files of tests/programs that belong to no program, here or in tests/taken.py."""
     kept = {name for program, parts in MADE_OF.items() for name in (program, *parts)}
+    kept |= {program.name for program in (taken.ASKS, taken.PLAYS)}
     there = {
         os.path.basename(path).split(".")[0] for path in glob.glob(os.path.join(played.TOP, "tests", "programs", "*"))
     }
