@@ -270,7 +270,7 @@ INPUTS: tuple[Input, ...] = (
     ),
     # two words: a command, and a line of its script
     *of_words(
-        "forms", ("script", "script 1", READS, 200), ("play", "play 1000000", READS, 1000),
+        "forms", ("script", "script 1", READS, 20_000), ("play", "play 1000000", READS, 1000),
         ("list", "list 0", USERS, 500), ("item", "list 700", USERS, 1000),
         ("table", "table 1000000", numbered(FILES, ROOT), 2000), ("list-commas", "list 0", repeated(","), 20_000),
         ("long-line", "script 1", repeated("x"), 50_000),
