@@ -152,6 +152,7 @@ PARTS = (
     Part("the page of all ways", test("ways_shown.py"), [PROGRAM]),
     Part("the page of a session", test("live_page.py"), [PROGRAM]),
     Part("work done anew", test("work.py"), [PROGRAM]),
+    Part("some lies about runs", test("lies.py", "--cases", "200"), [PROGRAM]),
     Part("random scripts", tool("compare", "--seeds", "200"), [PROGRAM]),
 )
 # What --long adds; of allocations each 61st is refused, and inputs are cut at each 29th byte.
