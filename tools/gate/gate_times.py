@@ -152,7 +152,7 @@ def merged(pieces: typing.Iterable[Times]) -> Times:
 
 def edits_of(crate: str) -> int:
     """How many wrong bodies of a crate the gate tries."""
-    return len(glob.glob(os.path.join(TOP, "crates", crate, "must-fail", "*.edit")))
+    return len(glob.glob(os.path.join(TOP, "crates", crate, "gate", "*.edit")))
 
 
 def bounds() -> dict[str, float]:
