@@ -66,10 +66,8 @@ def step(lanes: int) -> int:
     begun, lines, edits = time.monotonic(), ledger.read(), standing.all_edits(standing.crates())
     stale = [edit for edit in edits.values() if ledger.is_stale(edit, lines)]
     of_gate = [edit for edit in stale if edit.place == standing.GATE]
-    for edit in of_gate:
-        print(f"{edit.crate}/{edit.name}: {ledger.PATH} does not say that it is refused as the tree stands")
     if of_gate:
-        print(ledger.command(of_gate), flush=True)
+        ledger.tell_stale(of_gate, standing.GATE)
         return len(of_gate)
     current = {key: edit for key, edit in edits.items() if edit not in stale}
     fresh, some = new(current, lines, lines_before()), drawn(current, git("rev-parse", "HEAD"))

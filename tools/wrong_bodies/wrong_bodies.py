@@ -68,17 +68,6 @@ def try_all(found: list[standing.Edit]) -> int:
     return lost
 
 
-def tell_stale(stale: list[standing.Edit]) -> int:
-    """Lists the edits that have to be tried again, and returns how many of them are the gate's."""
-    for crate in sorted({it.crate for it in stale}):
-        print(f"{crate}: {' '.join(it.name for it in stale if it.crate == crate)}")
-    of_gate = [it for it in stale if it.place == GATE]
-    print(f"{len(stale)} wrong bodies are not known to be refused as the tree stands, {len(of_gate)} of them in gate/")
-    if stale:
-        print(ledger.command(stale))
-    return len(of_gate)
-
-
 def words() -> argparse.Namespace:
     head, _, more = __doc__.partition("\n\n")
     read = argparse.ArgumentParser(description=head, epilog=more, formatter_class=argparse.RawDescriptionHelpFormatter)
@@ -105,7 +94,8 @@ def main() -> int:
         lines = ledger.read()
         found = [it for it in found if ledger.is_stale(it, lines)]
     if given.stale:
-        return 1 if tell_stale(found) else 0
+        ledger.tell_stale(found, *(given.places if len(given.places) == 1 else ()))
+        return 1 if any(it.place == GATE for it in found) else 0
     if given.only:
         found = [it for it in found if it.name in given.only]
     return 1 if try_all(found) or given.only and not found else 0
