@@ -23,6 +23,12 @@ OPEN = (judge.PROVED, judge.UNSURE, judge.LIMIT, judge.LOST)
 Told = typing.Callable[[standing.Edit, Verdict, float], None]
 
 
+def fixed() -> int:
+    """How many checks RT_JOBS has run side by side, or 0."""
+    number = os.environ.get("RT_JOBS", "")
+    return int(number) if number.isdigit() else 0
+
+
 def tell(edit: standing.Edit, verdict: Verdict, seconds: float) -> None:
     """Prints what came of an edit."""
     where = f" by {verdict.function} ({verdict.clause})" if verdict.kind == judge.REFUSED else f": {verdict.said}"

@@ -15,7 +15,6 @@ how many are tried side by side. Told is what came of each; the status is 1 wher
 """
 import argparse
 import os
-import re
 import time
 
 from common import TOP, text_of
@@ -44,12 +43,6 @@ def check(names: list[str]) -> int:
     return lost
 
 
-def lanes() -> int:
-    """How many edits are tried side by side."""
-    fixed = os.environ.get("RT_JOBS", "")
-    return int(fixed) if re.fullmatch("[1-9][0-9]*", fixed) else gate.lanes() or 1
-
-
 def note(edit: standing.Edit, verdict: judge.Verdict, seconds: float) -> None:
     """Tells what came of an edit, and keeps it."""
     trying.tell(edit, verdict, seconds)
@@ -60,7 +53,7 @@ def note(edit: standing.Edit, verdict: judge.Verdict, seconds: float) -> None:
 
 def try_all(found: list[standing.Edit]) -> int:
     """Tries these edits, and returns how many were not refused."""
-    begun, number = time.monotonic(), lanes()
+    begun, number = time.monotonic(), trying.fixed() or gate.lanes() or 1
     print(f"{len(found)} wrong bodies to try in {len({it.crate for it in found})} crates, {number} at once", flush=True)
     verdicts = trying.Tries(number, note).all(found)
     lost = sum(it.kind != judge.REFUSED for it in verdicts.values())
