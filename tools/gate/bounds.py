@@ -1,8 +1,8 @@
 """The bounds of the gate, and what passes them.
 
 docs/gate-bounds.csv has for each step the processor seconds that it may take, with the reason where these are not a
-quarter more than it took: for each crate's proof, for its tests (`NAME tests`), for the `wrong bodies` that a run tries,
-for `all else`, and for `all`, a run from nothing. They are those of a machine on which the kit proves its own example
+quarter more than it took: for each crate's proof, for its tests (`NAME tests`), for the `wrong bodies` of a run, for
+`all else`, and for `all`, a run from nothing. They are those of a machine on which the kit proves its own example
 in the seconds of the line `kit`. As many copies of that as there will be lanes are timed first, so that processors
 which share a core are seen as they will be, and all bounds are scaled by the mean of them. Where a bound is passed,
 they are timed once more, and the slower time counts: then it has to be passed still.
