@@ -3,7 +3,7 @@ use Rattle.std.proofs.lemmas.List.Elements.{All-nil, All-cons}
 use Rattle.rep_core.specs.declared.request.Request.{Request}
 use Rattle.rep_core.specs.declared.stamped.Stamped.{Stamped}
 use Rattle.rep_core.specs.ValidCopies.{RequestFits}
-use Rattle.library_tests.proofs.server.uses.asked_twice.Goals as goal
+use Rattle.run_tests.proofs.promises.asked_twice.Goals as goal
 
 abbrev fits : Stamped Request → Type 0
 fits asked = RequestFits asked.value
