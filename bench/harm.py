@@ -101,7 +101,7 @@ def build(folder: str, tried: list[Edit]) -> None:
     """Builds the program with all these edits to a folder."""
     with tempfile.TemporaryDirectory(prefix="suites-") as room:
         for name in ("crates", "tools", "bench", "tests"):
-            left = shutil.ignore_patterns("out", "must-fail", "wrong", "__pycache__")
+            left = shutil.ignore_patterns("out", "gate", "wrong", "__pycache__")
             shutil.copytree(os.path.join(measure.TOP, name), os.path.join(room, name), ignore=left)
         for name in ("crates.txt", "HANDLES"):
             shutil.copy(os.path.join(measure.TOP, name), room)

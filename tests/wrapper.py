@@ -20,7 +20,7 @@ from played import Done, Shown, Tally
 from common import text_of
 
 COPIED = ("suites", "crates", "crates.txt", "docs", "help", "tools", "CHANGELOG.md", "README.md")
-LEFT_OUT = ("out", "__pycache__", "specs", "proofs", "must-fail", "wrong")
+LEFT_OUT = ("out", "__pycache__", "specs", "proofs", "gate", "wrong")
 # What `./suites` itself uses besides python3, git and rt.
 USED = ("sh", "cat", "find", "sleep", "readlink", "env", "head", "mktemp", "rm")
 NO_PYTHON, FAULT = "is not on the path\n", "fault command line\n"

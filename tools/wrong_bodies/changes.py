@@ -1,16 +1,12 @@
 """The edit of a wrong body: which texts it puts in the place of which, and where these stand.
 
 An edit may say with a line `in: FUNCTION` or `in: Type::FUNCTION` in which function of its file the texts of the lines
-`old: ..` below it are; each stands then once in that function, and else once in the file. The gate's own reader (`rt
-must-fail`) knows no such line, and takes a text only where it stands once in the file. So for_kit writes such an edit
-without the line, and marks the line of the source that is meant, in a copy.
+`old: ..` below it are; each stands then once in that function, and else once in the file.
 """
 import os
-import pathlib
 import typing
 
 from common import functions, text_of
-from front import sources
 
 # The lines of an edit that change nothing: wrong_bodies_page.py makes the page of them.
 TOLD = ("why", "refused by")
@@ -102,35 +98,3 @@ def why_not(text: str, crate: str) -> str | None:
     except Bad as bad:
         return str(bad)
     return None
-
-
-def marked(change: Change, crate: str) -> tuple[str, str]:
-    """The texts of a change for a reader that knows no functions. Where the old one does not stand once in its file, it
-    goes on to the end of its line, which gets a mark in the crate of this folder.
-    """
-    path = os.path.join(crate, change.file)
-    text = text_of(path)
-    place = place_of(text, change)
-    if text.count(change.old) == 1:
-        return change.old, change.new
-    ends = text.index("\n", place)
-    rest = text[place + len(change.old) : ends]
-    if text.count(text[place:ends]) > 1:
-        rest += f" // {change.function}, line {text.count(chr(10), 0, place) + 1}"
-        with_mark = text[: place + len(change.old)] + rest + text[ends:]
-        if sources.told(with_mark, ".rt") != sources.told(text, ".rt"):
-            raise Bad(f"its 'old:' text stands where no comment may be: {change.old.strip()}")
-        pathlib.Path(path).write_text(with_mark, encoding="utf-8")
-    return change.old + rest, change.new + rest
-
-
-def for_kit(text: str, crate: str) -> str:
-    """An edit as the gate's own reader takes it, of a copy of its crate in a folder, where it marks lines."""
-    changes = changes_in(text)
-    if not any(change.function for change in changes):
-        return text
-    lines: list[str] = []
-    for change in changes:
-        old, new = marked(change, crate)
-        lines += [f"file: {change.file}", f"old: {old}", f"new: {new}"]
-    return "\n".join([*lines, ""])

@@ -1,71 +1,41 @@
-"""Tries the wrong bodies that stand beside the gate: the edits of crates/NAME/wrong, which the prover must refuse.
+"""Tries wrong bodies, the edits that the prover must refuse, and writes what refused them into docs/wrong-bodies.csv.
 
-    python3 tools wrong_bodies             those of all crates
-    python3 tools wrong_bodies NAME..      those of these crates
-    python3 tools wrong_bodies --gate NAME..   those of crates/NAME/must-fail, which the gate tries too
-    python3 tools wrong_bodies --only EDIT NAME..   the one of that name, wherever it stands
-    python3 tools wrong_bodies --check [NAME..]   only whether the texts of all edits, in the gate and beside it, apply
+    python3 tools wrong_bodies NAME..       tries those of these crates
+    python3 tools wrong_bodies gate NAME..  those of crates/NAME/gate alone; wrong: those of crates/NAME/wrong
+    python3 tools wrong_bodies --only EDIT NAME..   the one of that name
+    python3 tools wrong_bodies --keep NAME..   those of which the ledger does not say that they are refused as the
+                                            tree stands
+    python3 tools wrong_bodies --stale NAME..  lists these; status 1 where one of the gate is among them
+    python3 tools wrong_bodies --check NAME..  only whether the texts of all edits apply
 
-It works on a copy of the crates as they stand, in a temporary folder that is removed however it ends. A crate is
-proved first (`rt check`, which begins with what other checks on this machine kept): over a crate that is not proved
-anything is refused. Then `rt must-fail` tries its edits. Told is each edit that is still proved, does not apply or
-was not tried, and the status is then 1. --check proves nothing and takes no time: the gate begins with it.
+With no NAME it means all crates. It works on a copy of the crates as they stand, in a temporary folder that is removed
+however it ends, over what `rt ci` and `rt check` proved on this machine of the same files. An edit is tried by the
+function that its line `refused by: ..` names, and by the whole crate where that says nothing (trying.py); RT_JOBS fixes
+how many are tried side by side. Told is what came of each; the status is 1 where one was not refused.
 """
 import argparse
-import contextlib
 import os
-import pathlib
 import re
-import shutil
-import signal
-import subprocess
-import tempfile
-import typing
+import time
 
-from common import TOP, console, of_kit, text_of
-from wrong_bodies import changes
+from common import TOP, text_of
+from gate import gate
+from wrong_bodies import changes, judge, kit, ledger, standing, trying
+from wrong_bodies.standing import BESIDE, CRATES, GATE, PLACES, crates, edits, name_of
 
-CRATES = os.path.join(TOP, "crates")
-GATE, BESIDE = "must-fail", "wrong"
-NAMED = re.compile(r"[A-Za-z0-9_-][A-Za-z0-9_.-]*\.edit")
-SAID = re.compile(r"(?:rt: )?must-fail (\w+)/(\S+)\.edit: (.*)")
-UNPROVED = re.compile(
-    r"rt: (\w+): (the check that its must-fail edits begin with did not end well|it is not proved again)"
-)
-
-
-def crates() -> list[str]:
-    """The names of all crates, sorted."""
-    return sorted(name for name in os.listdir(CRATES) if os.path.isdir(os.path.join(CRATES, name, "src")))
-
-
-def edits(crate: str, place: str) -> list[str]:
-    """The files in a place of a crate's edits, sorted."""
-    folder = os.path.join(CRATES, crate, place)
-    return [os.path.join(folder, name) for name in sorted(os.listdir(folder))] if os.path.isdir(folder) else []
-
-
-def name_of(path: str) -> str:
-    return os.path.splitext(os.path.basename(path))[0]
-
-
-def why_not(path: str, place: str, crate: str) -> str | None:
-    """Why an edit of this place cannot be applied to the crate in a folder, or None."""
-    if not NAMED.fullmatch(os.path.basename(path)):
-        return "its name is not of letters, digits, _, - and . with .edit at the end"
-    text = text_of(path)
-    if place == GATE and re.search("^in: ", text, re.M):
-        return f"it has a line 'in: ', which the gate does not read: only those of {BESIDE}/ may"
-    return changes.why_not(text, crate)
+__all__ = ["BESIDE", "GATE", "crates", "edits", "name_of"]
 
 
 def check(names: list[str]) -> int:
     """Tells each edit whose texts do not apply, and returns how many."""
-    found = [(name, place, path) for name in names for place in (GATE, BESIDE) for path in edits(name, place)]
-    lost, seen = 0, set[tuple[str, str]]()
-    for name, place, path in found:
-        is_twice = (name, name_of(path)) in seen
-        why = why_not(path, place, os.path.join(CRATES, name)) or ("its name stands in both places" if is_twice else "")
+    found = [(name, path) for name in names for place in PLACES for path in edits(name, place)]
+    lost, seen = 0, set[standing.Key]()
+    for name, path in found:
+        why = changes.why_not(text_of(path), os.path.join(CRATES, name))
+        if not standing.NAMED.fullmatch(os.path.basename(path)):
+            why = "its name is not of letters, digits, _, - and . with .edit at the end"
+        elif (name, name_of(path)) in seen:
+            why = "its name stands in both places"
         seen.add((name, name_of(path)))
         if why:
             lost += 1
@@ -74,111 +44,52 @@ def check(names: list[str]) -> int:
     return lost
 
 
-def copy(room: str, taken: dict[str, list[str]]) -> None:
-    """Copies the crates as they stand, with just the edits of taken (by crate) as those to be tried."""
-    for name in ("crates.txt", "HANDLES"):
-        if os.path.isfile(os.path.join(TOP, name)):
-            shutil.copy2(os.path.join(TOP, name), room)
-    shutil.copytree(CRATES, os.path.join(room, "crates"), ignore=shutil.ignore_patterns("out", GATE, BESIDE))
-    for name, files in taken.items():
-        crate = os.path.join(room, "crates", name)
-        os.mkdir(os.path.join(crate, GATE))
-        for path in files:
-            text = text_of(path)
-            # of one that does not apply rt tells so
-            with contextlib.suppress(changes.Bad):
-                text = changes.for_kit(text, crate)
-            pathlib.Path(crate, GATE, os.path.basename(path)).write_text(text, encoding="utf-8")
+def lanes() -> int:
+    """How many edits are tried side by side."""
+    fixed = os.environ.get("RT_JOBS", "")
+    return int(fixed) if re.fullmatch("[1-9][0-9]*", fixed) else gate.lanes() or 1
 
 
-@contextlib.contextmanager
-def started(words: list[str], folder: str, room: str) -> typing.Iterator[subprocess.Popen[str]]:
-    """A command whose rubbish lies in the room, in a group of its own that ends with this program."""
-    ran = console.start(words, folder, subprocess.PIPE, env={**os.environ, "TMPDIR": room}, errors="replace")
-    try:
-        yield ran
-    finally:
-        with contextlib.suppress(ProcessLookupError, PermissionError):
-            os.killpg(ran.pid, signal.SIGKILL)
-        ran.wait()
+def note(edit: standing.Edit, verdict: judge.Verdict, seconds: float) -> None:
+    """Tells what came of an edit, and keeps it."""
+    trying.tell(edit, verdict, seconds)
+    ledger.noted(edit, verdict)
+    if verdict.kind == judge.REFUSED:
+        kit.keep(edit.sum, (verdict.function, verdict.clause))
 
 
-def is_proved(name: str, room: str) -> bool:
-    """Whether the copy of a crate is proved. What its check says is told where it is not."""
-    with started(of_kit("check"), os.path.join(room, "crates", name), room) as ran:
-        lines = ran.stdout.read().rstrip("\n").split("\n")
-        if ran.wait() == 0:
-            return True
-    print(f"{name} is not proved, so its wrong bodies were not tried:", *lines[-8:], sep="\n  ", flush=True)
-    return False
-
-
-def try_edits(names: list[str], anew: bool, room: str) -> dict[tuple[str, str], str]:
-    """What was said of each edit of these crates, by crate and name."""
-    said, words = {}, of_kit("must-fail", *(["--anew"] if anew else []), *names)
-    with started(words, room, room) as ran:
-        for line in ran.stdout:
-            found, unproved = SAID.match(line), UNPROVED.match(line)
-            if found:
-                said[found[1], found[2]] = found[3]
-            elif unproved:
-                said[unproved[1], None] = line.strip()
-            else:
-                print(line, end="", flush=True)
-    return said
-
-
-def tell(name: str, files: list[str], said: dict[tuple[str, str], str]) -> int:
-    """Tells what came of a crate's edits, and returns how many were not refused."""
-    lost = 0
-    for tried in map(name_of, files):
-        word = said.get((name, tried), "NOT TRIED: rt said nothing of it")
-        word = f"NOT TRIED: {said[name, None]}" if (name, None) in said else word
-        lost += not word.startswith("refused")
-        if not word.startswith("refused") or "(only " in word:
-            print(f"{name}/{tried}: {word}")
-    print(f"{name}: {len(files) - lost} of {len(files)} refused", flush=True)
+def try_all(found: list[standing.Edit]) -> int:
+    """Tries these edits, and returns how many were not refused."""
+    begun, number = time.monotonic(), lanes()
+    print(f"{len(found)} wrong bodies to try in {len({it.crate for it in found})} crates, {number} at once", flush=True)
+    verdicts = trying.Tries(number, note).all(found)
+    lost = sum(it.kind != judge.REFUSED for it in verdicts.values())
+    print(f"{len(verdicts) - lost} of {len(verdicts)} refused, in {time.monotonic() - begun:.0f} s")
     return lost
 
 
-def taken_of(names: list[str], given: argparse.Namespace) -> dict[str, list[str]]:
-    """The files to try, by crate."""
-    places = (GATE, BESIDE) if given.only else (GATE,) if given.gate else (BESIDE,)
-    taken: dict[str, list[str]] = {}
-    for name in names:
-        files = [path for place in places for path in edits(name, place)]
-        taken[name] = [path for path in files if not given.only or name_of(path) in given.only]
-    return {name: files for name, files in taken.items() if files}
-
-
-def try_all(names: list[str], given: argparse.Namespace) -> int:
-    """Tries the edits of these crates, and returns how many were not refused."""
-    taken = taken_of(names, given)
-    print(f"{sum(map(len, taken.values()))} wrong bodies to try in {len(taken)} crates", flush=True)
-    with tempfile.TemporaryDirectory(prefix="wrong-bodies-", ignore_cleanup_errors=True) as room:
-        copy(room, taken)
-        proved = [name for name in taken if is_proved(name, room)]
-        said = try_edits(proved, given.anew, room) if proved else {}
-    lost = sum(tell(name, files, said) if name in proved else len(files) for name, files in taken.items())
-    return lost + (not taken and bool(given.only))
+def tell_stale(stale: list[standing.Edit]) -> int:
+    """Lists the edits that have to be tried again, and returns how many of them are the gate's."""
+    for crate in sorted({it.crate for it in stale}):
+        print(f"{crate}: {' '.join(it.name for it in stale if it.crate == crate)}")
+    of_gate = [it for it in stale if it.place == GATE]
+    print(f"{len(stale)} wrong bodies are not known to be refused as the tree stands, {len(of_gate)} of them in gate/")
+    if stale:
+        print(ledger.command(stale))
+    return len(of_gate)
 
 
 def words() -> argparse.Namespace:
     head, _, more = __doc__.partition("\n\n")
     read = argparse.ArgumentParser(description=head, epilog=more, formatter_class=argparse.RawDescriptionHelpFormatter)
-    read.add_argument("names", metavar="NAME", nargs="*", help="a crate; all of them, if none is named")
-    read.add_argument(
-        "--check", action="store_true", help="only look whether the texts of all edits apply; proves nothing"
-    )
-    read.add_argument("--gate", action="store_true", help="try those in the gate in place of those beside it")
-    read.add_argument(
-        "--only",
-        metavar="EDIT",
-        action="append",
-        help="try the edit of this name, in the gate or beside it (may be given again)",
-    )
-    read.add_argument("--anew", action="store_true", help="try also what was tried before over the same files")
+    read.add_argument("names", metavar="NAME", nargs="*", help=f"a crate, or a place: {' or '.join(PLACES)}")
+    read.add_argument("--check", action="store_true", help="only look whether the texts of all edits apply")
+    read.add_argument("--stale", action="store_true", help="only list those that have to be tried again")
+    read.add_argument("--keep", action="store_true", help="try those that have to be tried again")
+    read.add_argument("--only", metavar="EDIT", action="append", help="try the one of this name (may be given again)")
     given = read.parse_args()
+    given.places = [it for it in PLACES if it in given.names] or PLACES
+    given.names = [it for it in given.names if it not in PLACES] or crates()
     unknown = sorted({*given.names} - {*crates()})
     if unknown:
         read.error(f"there is no crate {unknown[0]}")
@@ -187,5 +98,14 @@ def words() -> argparse.Namespace:
 
 def main() -> int:
     given = words()
-    names = given.names or crates()
-    return 1 if (check(names) if given.check else try_all(names, given)) else 0
+    if given.check:
+        return 1 if check(given.names) else 0
+    found = [*standing.all_edits(given.names, given.places).values()]
+    if given.stale or given.keep:
+        lines = ledger.read()
+        found = [it for it in found if ledger.is_stale(it, lines)]
+    if given.stale:
+        return 1 if tell_stale(found) else 0
+    if given.only:
+        found = [it for it in found if it.name in given.only]
+    return 1 if try_all(found) or given.only and not found else 0
