@@ -7,8 +7,8 @@ in the seconds of the line `kit`. As many copies of that as there will be lanes 
 which share a core are seen as they will be, and all bounds are scaled by the mean of them. Where a bound is passed,
 they are timed once more, and the slower time counts: then it has to be passed still.
 
-Counted is what a run proved, where the rest was kept: each step against its own bound, and the sum of them against the
-sum of theirs. Four copies took 11.9 and 14.6 s in the mean within two minutes, as other work on the machine went on: a
+Counted is what a run proved, where the rest was kept: each step against its own bound, and the sum of those of
+crates against the sum of theirs. Four copies took 11.9 and 14.6 s in the mean within two minutes, as other work on the machine went on: a
 fifth more. So a bound is a quarter above what was seen, and one step alone may be a quarter (and some seconds) above
 that; the sum of them, in which chance evens out, may not, and neither may a run from nothing be above the bound of all.
 """
@@ -79,9 +79,10 @@ def passed(times: Times, most: Bounds, slower: float) -> list[str]:
              if step not in bounded]
     alone = {step: ALONE * bound + LEAST for step, bound in bounded.items()}
     found += [too_much(step, times[step], bound) for step, bound in alone.items() if times[step] > bound]
-    these, whole = sum(times[step] for step in bounded), sum(times.values())
-    if these > sum(bounded.values()) + LEAST:
-        found.append(too_much("what this run did", these, sum(bounded.values())))
+    of_crates = [step for step in bounded if step not in OF_ALL]
+    these, theirs, whole = sum(map(times.get, of_crates)), sum(map(bounded.get, of_crates)), sum(times.values())
+    if these > theirs + LEAST:
+        found.append(too_much("what this run proved", these, theirs))
     if is_whole(times) and whole > most[ALL][0] * slower:
         found.append(too_much("a run from nothing", whole, most[ALL][0] * slower))
     return found
