@@ -26,7 +26,7 @@ from common import TOP, console, crates
 PATH = os.path.join(TOP, "docs", "gate-bounds.csv")
 KIT, TESTS, BODIES, ELSE, ALL = "kit", " tests", "wrong bodies", "all else", "all"
 OF_ALL = KIT, BODIES, ELSE, ALL
-HEAD = ("step", "seconds", "reason")
+HEAD, GUESS = ("step", "seconds", "reason"), "a guess"
 # The example of the kit that is timed: a library that never changes.
 EXAMPLE = "start_lib"
 # What one step alone may be above its bound, which times of one that takes little do not tell by themselves.
@@ -103,13 +103,16 @@ def lines(times: Times, most: Bounds, slower: float) -> typing.Iterator[str]:
 
 
 def renewed(times: Times, before: Bounds) -> str:
-    """The file of bounds anew: a quarter more than each step took. What has a reason, or was not seen, stays."""
+    """The file of bounds anew: a quarter more than each step took. What was not seen stays, and what has a reason that
+    is no guess.
+    """
     text = io.StringIO()
     table = csv.writer(text, lineterminator="\n")
     table.writerow(HEAD)
     names = {step for step in before if step in OF_ALL or step.removesuffix(TESTS) in crates.listed()}
     for step in sorted(names | set(times)):
-        seconds, reason = before.get(step, (0.0, ""))
-        bound = seconds if reason or step not in times else -(-times[step] * 5 // 40) * 10
+        bound, reason = before.get(step, (0.0, ""))
+        if step in times and (not reason or GUESS in reason):
+            bound, reason = -(-times[step] * 5 // 40) * 10, ""
         table.writerow((step, f"{bound:g}", reason))
     return text.getvalue().rstrip("\n")
