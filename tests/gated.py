@@ -92,7 +92,7 @@ def bind(tally: Tally) -> None:
                "all": (99.0, "")}
     with tempfile.TemporaryDirectory(prefix="suites-") as room:
         status, told = gated(room, planted, 10)
-        tally.holds(status == 1 and told.endswith("3 passed, 1 failed\n"), "a bound that is passed", status, told)
+        tally.holds(status == 1 and told.endswith("3 passed, 2 failed\n"), "a bound that is passed", status, told)
         tally.holds("FAILED: vote_core took " in told and "  vote_core\n" in told, "the table", told)
         status, told = gated(room, planted, 30)
         tally.holds(status == 0 and told.endswith("3 passed, 0 failed\n"), "a slow machine", status, told)

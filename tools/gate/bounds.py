@@ -1,16 +1,17 @@
 """The bounds of the gate, and what passes them.
 
 docs/gate-bounds.csv has for each step the processor seconds that it may take, with the reason where these are not a
-quarter more than it took: for each crate's proof, for its tests (`NAME tests`), for the `wrong bodies` that a run tries,
-for `all else`, and for `all`, a run from nothing. They are those of a machine on which the kit proves its own example
+quarter more than it took: for each crate's proof, for its tests (`NAME tests`), for the `wrong bodies` of a run, for
+`all else`, and for `all`, a run from nothing. They are those of a machine on which the kit proves its own example
 in the seconds of the line `kit`. As many copies of that as there will be lanes are timed first, so that processors
 which share a core are seen as they will be, and all bounds are scaled by the mean of them. Where a bound is passed,
 they are timed once more, and the slower time counts: then it has to be passed still.
 
-Counted is what a run proved, where the rest was kept: each step against its own bound, and the sum of them against the
-sum of theirs. Four copies took 11.9 and 14.6 s in the mean within two minutes, as other work on the machine went on: a
-fifth more. So a bound is a quarter above what was seen, and one step alone may be a quarter (and some seconds) above
-that; the sum of them, in which chance evens out, may not, and neither may a run from nothing be above the bound of all.
+Counted is what a run proved, where the rest was kept: each step against its own bound, and the sum of those of crates
+against the sum of theirs. Four copies took 11.9 and 14.6 s in the mean within two minutes, as other work on the machine
+went on: a fifth more. So a bound is a quarter above what was seen, and one step alone may be a quarter (and some
+seconds) above that; the sum of them, in which chance evens out, may not, and neither may a run from nothing be above
+the bound of all.
 """
 import csv
 import io
@@ -25,7 +26,7 @@ from common import TOP, console, crates
 PATH = os.path.join(TOP, "docs", "gate-bounds.csv")
 KIT, TESTS, BODIES, ELSE, ALL = "kit", " tests", "wrong bodies", "all else", "all"
 OF_ALL = KIT, BODIES, ELSE, ALL
-HEAD = ("step", "seconds", "reason")
+HEAD, GUESS = ("step", "seconds", "reason"), "a guess"
 # The example of the kit that is timed: a library that never changes.
 EXAMPLE = "start_lib"
 # What one step alone may be above its bound, which times of one that takes little do not tell by themselves.
@@ -79,9 +80,10 @@ def passed(times: Times, most: Bounds, slower: float) -> list[str]:
              if step not in bounded]
     alone = {step: ALONE * bound + LEAST for step, bound in bounded.items()}
     found += [too_much(step, times[step], bound) for step, bound in alone.items() if times[step] > bound]
-    these, whole = sum(times[step] for step in bounded), sum(times.values())
-    if these > sum(bounded.values()) + LEAST:
-        found.append(too_much("what this run did", these, sum(bounded.values())))
+    of_crates = [step for step in bounded if step not in OF_ALL]
+    these, theirs, whole = sum(map(times.get, of_crates)), sum(map(bounded.get, of_crates)), sum(times.values())
+    if these > theirs + LEAST:
+        found.append(too_much("what this run proved", these, theirs))
     if is_whole(times) and whole > most[ALL][0] * slower:
         found.append(too_much("a run from nothing", whole, most[ALL][0] * slower))
     return found
@@ -101,13 +103,16 @@ def lines(times: Times, most: Bounds, slower: float) -> typing.Iterator[str]:
 
 
 def renewed(times: Times, before: Bounds) -> str:
-    """The file of bounds anew: a quarter more than each step took. What has a reason, or was not seen, stays."""
+    """The file of bounds anew: a quarter more than each step took. What was not seen stays, and what has a reason that
+    is no guess.
+    """
     text = io.StringIO()
     table = csv.writer(text, lineterminator="\n")
     table.writerow(HEAD)
     names = {step for step in before if step in OF_ALL or step.removesuffix(TESTS) in crates.listed()}
     for step in sorted(names | set(times)):
-        seconds, reason = before.get(step, (0.0, ""))
-        bound = seconds if reason or step not in times else -(-times[step] * 5 // 40) * 10
+        bound, reason = before.get(step, (0.0, ""))
+        if step in times and (not reason or GUESS in reason):
+            bound, reason = -(-times[step] * 5 // 40) * 10, ""
         table.writerow((step, f"{bound:g}", reason))
     return text.getvalue().rstrip("\n")

@@ -59,15 +59,15 @@ def spent() -> float:
 
 
 class Run:
-    """A run of the gate: what it proves, its lanes, and what the steps cost."""
+    """A run of the gate: its lanes, and what its steps cost."""
 
     def __init__(self, number: int | None) -> None:
         self.number, self.begun = number, time.monotonic()
         self.side = number or max(int(os.environ.get("RT_JOBS") or 1), 1)
         self.most = bounds.kept()
         self.apart = 0.0
-        self.kit, self.times = self.timed(), bounds.Times()
-        self.last = ""
+        self.kit, self.last = self.timed(), ""
+        self.times: bounds.Times = {}
 
     def timed(self) -> float:
         """Times the kit's example, apart from the steps."""

@@ -5,8 +5,9 @@
     python3 tools gate_times --bounds times.csv..   new bounds: a quarter more for each step, for docs/gate-bounds.csv
 
 gate.py reads the times from the provers that run. A step is a crate's proof, with the builds of a program; its proof
-with its tests (`NAME tests`); the wrong bodies of all crates; and all else. Of several files, where a gate was run in
-pieces, the most counts that a step took in one of them.
+with its tests (`NAME tests`); the wrong bodies of all crates; and all else. A check that was killed for memory and
+begun once more counts once, with the longer of the two. Of several files, where a gate was run in pieces, the most
+counts that a step took in one of them.
 """
 import argparse
 import contextlib
@@ -24,14 +25,15 @@ TICKS = os.sysconf("SC_CLK_TCK")
 Prover = tuple[list[str], str, int, str, tuple[float, float]]
 
 
-def step_of(words: list[str], folder: str) -> str:
-    """The step that a prover works at, from its words and the folder that it works in: rt tries an edit on a copy of
-    the crate in a folder rt-edit-*.
+def step_of(words: list[str], folder: str) -> tuple[str, str]:
+    """The step that a prover works at, from its words and the folder that it works in, and what it does there, which
+    is done once. rt tries an edit on a copy of the crate in a folder rt-edit-*.
     """
-    crate = words[words.index("--crate-name") + 1]
-    if "--test" in words:
-        return crate + bounds.TESTS
-    return bounds.BODIES if os.path.basename(folder).startswith("rt-edit") else crate
+    crate, room = words[words.index("--crate-name") + 1], os.path.basename(folder)
+    if room.startswith("rt-edit"):
+        return bounds.BODIES, room
+    compiler = words[words.index("--backend") + 1] if "--backend" in words else ""
+    return crate + bounds.TESTS if "--test" in words else crate, f"{words[1]} {compiler}"
 
 
 class Watch(threading.Thread):
@@ -41,7 +43,7 @@ class Watch(threading.Thread):
         super().__init__(daemon=True)
         self.above, self.ended = above, threading.Event()
         # by the number and begin of a first prover its step, the seconds of each by number and begin, and the most
-        self.provers: dict[tuple[int, str], tuple[str, dict[tuple[int, str], float], float]] = {}
+        self.provers: dict[tuple[int, str], tuple[tuple[str, str], dict[tuple[int, str], float], float]] = {}
 
     def run(self) -> None:
         while not self.ended.wait(EVERY):
@@ -69,10 +71,13 @@ class Watch(threading.Thread):
 
     def times(self) -> bounds.Times:
         """Seconds by step."""
-        found: bounds.Times = {}
-        for step, seconds, most in list(self.provers.values()):
+        parts: dict[tuple[str, str], float] = {}
+        for part, seconds, most in list(self.provers.values()):
             # (copies that ended unseen count with what the first one waited for)
-            found[step] = found.get(step, 0.0) + max(sum(seconds.values()), most)
+            parts[part] = max(parts.get(part, 0.0), sum(seconds.values()), most)
+        found: bounds.Times = {}
+        for (step, _), most in parts.items():
+            found[step] = found.get(step, 0.0) + most
         return found
 
 

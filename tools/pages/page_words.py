@@ -1,7 +1,8 @@
 """python3 tools page_words [--each]
 
-Counts the words of the pages: README.md, CONTRIBUTING.md and docs/, without the table of docs/PROVED.md. A word has a letter or a digit. With --each it tells them page by page.
-README is to be read in one sitting and all pages in an evening, so each has a bound; status 1 where one is passed.
+Counts the words of the pages: README.md, CONTRIBUTING.md and docs/, without the table of docs/PROVED.md. A word has a
+letter or a digit. With --each it tells them page by page. README is to be read in one sitting and all pages in an
+evening, so each has a bound; status 1 where one is passed.
 """
 import glob
 import os
