@@ -6,8 +6,9 @@ crates' edits the sum is another. Then what comes of a check, by how it ended an
 refusal is taken for one. Then which lines the gate tries.
 """
 import os
+import subprocess
 import tempfile
-import typing
+import unittest.mock
 
 from played import Tally, plays, put
 
@@ -15,6 +16,7 @@ from common import text_of
 from wrong_bodies import decides, gate_step, judge, kit, ledger, standing
 
 KIT = "kit-1 logic 0"
+NOW = 2_000_000_000
 LIST = "low: thiserror\nmid: low\ntop: mid low\napart:\n"
 EDIT = "why: none\nfile: src/lib.rt\nold: thing + 1\nnew: thing\n"
 SOURCE = """//! A crate.
@@ -245,5 +247,39 @@ def picked(tally: Tally) -> None:
         tally.holds(not lines[one.key].says(verdict), word, verdict)
 
 
+def committed(room: str, hours: int, rows: str, *words: str) -> None:
+    """Commits a ledger of these rows, as so many hours ago."""
+    put(os.path.join(room, ledger.PATH), ",".join(ledger.HEAD) + "\n" + rows)
+    at = f"@{NOW - 3600 * hours} +0000"
+    who = {f"GIT_{of}_{it}": "x" for of in ("AUTHOR", "COMMITTER") for it in ("NAME", "EMAIL")}
+    given = {**os.environ, **who, "GIT_COMMITTER_DATE": at, "GIT_AUTHOR_DATE": at}
+    for command in (("add", "."), ("commit", "-qm", "x", *words)):
+        subprocess.run(["git", *command], cwd=room, env=given, check=True)
+
+
+def of_main(tally: Tally) -> None:
+    """Looks what the gate takes for the lines of main before what lands."""
+    low, mid = "low,e0,s,f,c\n", "mid,e1,s,f,c\n"
+    with tempfile.TemporaryDirectory(prefix="suites-") as room, unittest.mock.patch.multiple(
+        "wrong_bodies.gate_step", TOP=room
+    ), unittest.mock.patch.multiple("wrong_bodies.ledger", TOP=room):
+        os.mkdir(os.path.join(room, "docs"))
+        tally.holds(gate_step.lines_before() == {}, "no repository")
+        subprocess.run(["git", "init", "-q", room], check=True)
+        committed(room, 6, low)
+        tally.holds(gate_step.lines_before() == {}, "one commit alone")
+        main = gate_step.git("rev-parse", "HEAD")
+        subprocess.run(["git", "checkout", "-q", "--detach"], cwd=room, check=True)
+        committed(room, 5, low + mid)
+        side = gate_step.git("rev-parse", "HEAD")
+        subprocess.run(["git", "reset", "-q", "--hard", main], cwd=room, check=True)
+        committed(room, 2, low, "--allow-empty")
+        tally.holds([*gate_step.lines_before()] == [("low", "e0")], "a session's commits are new")
+        subprocess.run(["git", "merge", "--no-commit", "--no-ff", side], cwd=room, check=True, capture_output=True)
+        committed(room, 0, low + mid)
+        told = [*gate_step.lines_before()]
+        tally.holds(told == [("low", "e0")], "what a side brings is new, however old", told)
+
+
 if __name__ == "__main__":
-    plays(__doc__, "looks at the ledger", decided, judged, picked)
+    plays(__doc__, "looks at the ledger", decided, judged, picked, of_main)

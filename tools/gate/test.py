@@ -104,6 +104,7 @@ PARTS = (
     Part("words of pages", tool("page_words")),
     Part("texts of wrong bodies", tool("wrong_bodies", "--check")),
     Part("how edits are read", test("edits.py")),
+    Part("what the ledger of wrong bodies takes", test("ledger.py")),
     Part("what rt finds of crates", test("kit.py")),
     Part("words of wrong bodies", tool("wrong_bodies_page", "--check")),
     Part("laws, and names in PROVED", tool("proved_page", "--check")),

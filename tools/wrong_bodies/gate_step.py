@@ -61,21 +61,19 @@ def tries(edits: Edits, lines: ledger.Lines, lanes: int) -> int:
     return sum(not lines[key].says(verdict) for key, verdict in verdicts.items())
 
 
-def step(lanes: int) -> int:
-    """The whole, with so many edits tried side by side. Returns how many faults there are."""
+def step(lanes: int | None = None) -> int:
+    """The whole, with so many edits tried side by side, or as RT_JOBS has it. Returns how many faults there are."""
     begun, lines, edits = time.monotonic(), ledger.read(), standing.all_edits(standing.crates())
     stale = [edit for edit in edits.values() if ledger.is_stale(edit, lines)]
     of_gate = [edit for edit in stale if edit.place == standing.GATE]
-    for edit in of_gate:
-        print(f"{edit.crate}/{edit.name}: {ledger.PATH} does not say that it is refused as the tree stands")
     if of_gate:
-        print(ledger.command(of_gate), flush=True)
+        ledger.tell_stale(of_gate, standing.GATE)
         return len(of_gate)
     current = {key: edit for key, edit in edits.items() if edit not in stale}
     fresh, some = new(current, lines, lines_before()), drawn(current, git("rev-parse", "HEAD"))
     told = f"{len(fresh)} lines that are new" + (f" and {len(some)} of {next(iter(some))[0]}, drawn" if some else "")
     print(f"wrong bodies: {len(current)} of {len(edits)} are known to be refused; tried are {told}", flush=True)
-    lost = tries({**fresh, **some}, lines, lanes)
+    lost = tries({**fresh, **some}, lines, lanes or trying.fixed() or 1)
     word = f"{lost} were not refused where their lines say" if lost else "all refused where their lines say"
     print(f"wrong bodies: {word}, in {time.monotonic() - begun:.0f} s", flush=True)
     return lost

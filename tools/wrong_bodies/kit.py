@@ -90,10 +90,19 @@ class Copy:
         return ""
 
     def is_taken(self, crate: typing.Any) -> bool:
-        found = self.rt.take_rlib(crate)
-        if found:
-            self.kept.is_built(crate)
-        return found
+        """Whether a library stands in this checkout that `rt` built of the same text over the same libraries."""
+        here = os.path.join(CRATES, crate.name, "out", "rlib")
+        below = [(it.rlib, os.path.join(CRATES, it.name, "out", "rlib", f"{it.name}.rlib")) for it in crate.below()]
+        # (a library's format holds the sum of its files)
+        formats = [[self.rt.rtlib.sum_of(f"{it}/format") for it in pair] for pair in below]
+        if self.rt.rtlib.text_of(f"{here}/stamp") != crate.stamp() or any(one != other for one, other in formats):
+            return False
+        shutil.rmtree(os.path.dirname(crate.rlib), ignore_errors=True)
+        shutil.copytree(here, os.path.dirname(crate.rlib), copy_function=self.rt.link_or_copy)
+        if not crate.is_built():
+            return False
+        self.kept.is_built(crate)
+        return True
 
     def builds(self, crate: typing.Any) -> bool:
         print(f"{crate.name}: nothing kept of it fits, so it is proved first", flush=True)

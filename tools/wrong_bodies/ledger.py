@@ -53,9 +53,14 @@ def is_stale(edit: standing.Edit, lines: Lines) -> bool:
     return not edit.sum or edit.key not in lines or lines[edit.key].sum != edit.sum
 
 
-def command(edits: typing.Iterable[standing.Edit]) -> str:
-    """What tries these."""
-    return f"python3 tools wrong_bodies --keep {' '.join(sorted({it.crate for it in edits}))}   tries them"
+def tell_stale(edits: list[standing.Edit], place: str = "") -> None:
+    """Lists edits that have to be tried again, and the command that does so."""
+    crates = sorted({it.crate for it in edits})
+    for crate in crates:
+        print(f"{crate}: {' '.join(it.name for it in edits if it.crate == crate)}")
+    print(f"{len(edits)} wrong bodies{f' of {place}/' if place else ''} are not known to be refused as the tree stands")
+    if edits:
+        print("python3 tools wrong_bodies --keep", *filter(None, [place]), *crates, "  tries them", flush=True)
 
 
 def noted(edit: standing.Edit, verdict: judge.Verdict) -> None:

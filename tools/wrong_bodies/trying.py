@@ -15,12 +15,18 @@ import time
 import typing
 
 from common import console
-from wrong_bodies import changes, decides, judge, kit, standing
+from wrong_bodies import changes, decides, judge, kit, ledger, standing
 from wrong_bodies.judge import UNSURE, Verdict
 
 # What a try by one function may leave open.
 OPEN = (judge.PROVED, judge.UNSURE, judge.LIMIT, judge.LOST)
 Told = typing.Callable[[standing.Edit, Verdict, float], None]
+
+
+def fixed() -> int:
+    """How many checks RT_JOBS has run side by side, or 0."""
+    number = os.environ.get("RT_JOBS", "")
+    return int(number) if number.isdigit() else 0
 
 
 def tell(edit: standing.Edit, verdict: Verdict, seconds: float) -> None:
@@ -35,7 +41,10 @@ class Crate:
     def __init__(self, copy: kit.Copy, name: str, edits: list[standing.Edit]) -> None:
         self.copy, self.name, self.edits = copy, name, edits
         folder = copy.crates[name].folder
-        self.only = {edit: standing.paths_of(edit, folder) for edit in edits}
+        # (an edit that names no function is tried by the one that refused it last)
+        lines = ledger.read()
+        last = {edit: [lines[edit.key].function] for edit in edits if edit.key in lines}
+        self.only = {edit: standing.paths_of(edit, folder) or last.get(edit, []) for edit in edits}
         self.texts = {edit: changes.applied(changes.changes_in(edit.text), folder) for edit in edits}
         self.room = tempfile.mkdtemp(prefix=f"{name}-", dir=copy.room)
         self.seed: str | None = os.path.join(self.room, "seed")

@@ -15,7 +15,6 @@ how many are tried side by side. Told is what came of each; the status is 1 wher
 """
 import argparse
 import os
-import re
 import time
 
 from common import TOP, text_of
@@ -44,12 +43,6 @@ def check(names: list[str]) -> int:
     return lost
 
 
-def lanes() -> int:
-    """How many edits are tried side by side."""
-    fixed = os.environ.get("RT_JOBS", "")
-    return int(fixed) if re.fullmatch("[1-9][0-9]*", fixed) else gate.lanes() or 1
-
-
 def note(edit: standing.Edit, verdict: judge.Verdict, seconds: float) -> None:
     """Tells what came of an edit, and keeps it."""
     trying.tell(edit, verdict, seconds)
@@ -60,23 +53,12 @@ def note(edit: standing.Edit, verdict: judge.Verdict, seconds: float) -> None:
 
 def try_all(found: list[standing.Edit]) -> int:
     """Tries these edits, and returns how many were not refused."""
-    begun, number = time.monotonic(), lanes()
+    begun, number = time.monotonic(), trying.fixed() or gate.lanes() or 1
     print(f"{len(found)} wrong bodies to try in {len({it.crate for it in found})} crates, {number} at once", flush=True)
     verdicts = trying.Tries(number, note).all(found)
     lost = sum(it.kind != judge.REFUSED for it in verdicts.values())
     print(f"{len(verdicts) - lost} of {len(verdicts)} refused, in {time.monotonic() - begun:.0f} s")
     return lost
-
-
-def tell_stale(stale: list[standing.Edit]) -> int:
-    """Lists the edits that have to be tried again, and returns how many of them are the gate's."""
-    for crate in sorted({it.crate for it in stale}):
-        print(f"{crate}: {' '.join(it.name for it in stale if it.crate == crate)}")
-    of_gate = [it for it in stale if it.place == GATE]
-    print(f"{len(stale)} wrong bodies are not known to be refused as the tree stands, {len(of_gate)} of them in gate/")
-    if stale:
-        print(ledger.command(stale))
-    return len(of_gate)
 
 
 def words() -> argparse.Namespace:
@@ -105,7 +87,8 @@ def main() -> int:
         lines = ledger.read()
         found = [it for it in found if ledger.is_stale(it, lines)]
     if given.stale:
-        return 1 if tell_stale(found) else 0
+        ledger.tell_stale(found, *(given.places if len(given.places) == 1 else ()))
+        return 1 if any(it.place == GATE for it in found) else 0
     if given.only:
         found = [it for it in found if it.name in given.only]
     return 1 if try_all(found) or given.only and not found else 0
