@@ -3,14 +3,13 @@ its events against them.
 """
 import re
 import sys
-from collections.abc import Iterable, Iterator
+from collections.abc import Iterable
 
 import played  # noqa: F401
 
 from common import built
 
 REQUEST = re.compile(r"  (\d+) -> s(\d+)  (.*?) +: (.*)")
-OUTCOME = re.compile(r"(\d+)\.(\d+) (\d+) (.*)")
 COPY = re.compile(r"    suite (\d+) \w+ prefix (\d+) content (\d+) votes \S+$")
 SUITE = re.compile(r"\bsuite (\d+)\b")
 NAMES = re.compile(r"suite (\d+)\b[^;:]*(?:: given, content \d+)? names((?: \S+=\d+)+)")
@@ -22,17 +21,6 @@ def lines_of(script: str) -> list[str]:
     if status != 0:
         sys.exit(f"trace ends with status {status}: {text[:200]!r} of\n{script}")
     return text.split("\n")[:-1]
-
-
-def blocks(lines: Iterable[str]) -> Iterator[tuple[str, list[str]]]:
-    """Each line of the script, and of each server at the end, with the lines below it."""
-    found: list[tuple[str, list[str]]] = []
-    for line in lines:
-        if line[:1] in (">", "="):
-            found.append((line, []))
-        else:
-            found[-1][1].append(line)
-    yield from found
 
 
 def paths(lines: Iterable[str]) -> dict[int, str]:
@@ -67,49 +55,3 @@ def told(lines: list[str]) -> str:
                  if int(own) < most] if copy else []
         text += f"{asked:56} : {reply}\n" if is_request else f"{line}{'   behind: ' * bool(older)}{', '.join(older)}\n"
     return text
-
-
-def about_agent(lines: list[str], agent: int) -> Iterator[int]:
-    """The places of the lines that are about an agent: below a line of the script that is of it, or of servers."""
-    is_about = True
-    for place, line in enumerate(lines):
-        words = line.split()
-        if line[:1] in "=>":
-            is_about = line[0] == "=" or words[1] in ("crash", "return", "audit") or int(words[2]) == agent
-        if is_about:
-            yield place
-
-
-def about_suite(lines: list[str], suite: int) -> set[int]:
-    """The places of the lines that are about a suite: requests that name it or are of a transaction that does, the ends
-    of such jobs, what agents are told that do nothing, audits and servers; and the lines of the script that have such
-    lines, or begin such jobs.
-    """
-    asked = [re.match(r"  (\d+) -> s\d+  (?:t (\d+) )?(.*?) +: ", line) for line in lines]
-    suites = [set(map(int, re.findall(r"suite (\d+)", found[3]))) if found else set() for found in asked]
-    own = {found[2] for found, named in zip(asked, suites) if found and suite in named}
-    jobs: dict[str, bool] = {}
-    heads: dict[str, int] = {}
-    shown: set[int] = set()
-    for place, (line, found, named) in enumerate(zip(lines, asked, suites)):
-        ended, words = re.match(r"(\d+)\.\d+ ", line), line[2:].split()
-        is_about = True
-        if line[:1] in "=>":
-            head, is_about = place, line[0] == "=" or words[0] in ("crash", "return")
-            if words[0] in ("begin", "sweep") and not lines[place + 1].startswith("  nothing"):
-                heads[words[1]] = place
-        elif found:
-            is_about = suite in named if named else found[2] is not None and found[2] in own
-            jobs[found[1]] = jobs.get(found[1], False) or is_about
-        elif ended:
-            is_about = jobs.pop(ended[1], False)
-        elif line.startswith("    "):
-            is_about = re.search(rf"suite {suite}\b", line) is not None
-        if is_about:
-            shown |= {place, head}
-            shown |= {
-                heads[words[1]]
-                for words in [lines[head][2:].split()]
-                if words[0] in ("step", "run") and words[1] in heads
-            }
-    return shown
