@@ -3,13 +3,14 @@ its events against them.
 """
 import re
 import sys
-from collections.abc import Iterable
+from collections.abc import Iterable, Iterator
 
 import played  # noqa: F401
 
 from common import built
 
 REQUEST = re.compile(r"  (\d+) -> s(\d+)  (.*?) +: (.*)")
+OUTCOME = re.compile(r"(\d+)\.(\d+) (\d+) (.*)")
 COPY = re.compile(r"    suite (\d+) \w+ prefix (\d+) content (\d+) votes \S+$")
 SUITE = re.compile(r"\bsuite (\d+)\b")
 NAMES = re.compile(r"suite (\d+)\b[^;:]*(?:: given, content \d+)? names((?: \S+=\d+)+)")
@@ -21,6 +22,17 @@ def lines_of(script: str) -> list[str]:
     if status != 0:
         sys.exit(f"trace ends with status {status}: {text[:200]!r} of\n{script}")
     return text.split("\n")[:-1]
+
+
+def blocks(lines: Iterable[str]) -> Iterator[tuple[str, list[str]]]:
+    """Each line of the script, and of each server at the end, with the lines below it."""
+    found: list[tuple[str, list[str]]] = []
+    for line in lines:
+        if line[:1] in (">", "="):
+            found.append((line, []))
+        else:
+            found[-1][1].append(line)
+    yield from found
 
 
 def paths(lines: Iterable[str]) -> dict[int, str]:
