@@ -131,11 +131,9 @@ FORMS: dict[str, Callable[[Dice, Tree, int, Count], None]] = {
     "under": ask_under,
     "many": ask_many,
     "change": may_changes.ask_changes,
-    "changes": may_changes.ask_trees,
     "default": may_changes.ask_defaults,
-    "lint": may_changes.ask_lint,
 }
-NEED_SETFACL = ("change", "changes", "default", "lint")
+NEED_SETFACL = ("change", "default")
 
 
 def is_possible(place: str | None) -> bool:

@@ -46,7 +46,7 @@ def records() -> dict[str, set[str]]:
 
 def laws() -> dict[str, bool]:
     """The public functions that do nothing, each with whether it asks something of its caller."""
-    found = {}
+    found = dict[str, bool]()
     for crate in proved_page.crates():
         for path in glob.glob(os.path.join(TOP, "crates", crate, "src", "**", "*.rt"), recursive=True):
             text = text_of(path)
@@ -54,8 +54,9 @@ def laws() -> dict[str, bool]:
             for one in functions.functions(text):
                 whole = "".join(lines[one.first : one.last + 1]).replace(" ", "")
                 if whole.startswith("pubfn") and whole.endswith("{}"):
-                    found[f"{crate} {one.name}"] = re.search(r"^ *requires\b", "\n".join(lines[one.first : one.last]), re.M)
-    return {name: asks is not None for name, asks in found.items()}
+                    asks = re.compile(r" *requires\b")
+                    found[f"{crate} {one.name}"] = any(map(asks.match, lines[one.first : one.last]))
+    return found
 
 
 def looks(tally: Tally) -> None:

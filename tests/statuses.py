@@ -2,8 +2,8 @@
 """tests/statuses.py
 
 Looks with which status the commands `trace` and `forms` end (0 done, 2 other words, 3 a fault, 6 an input above 16 MiB
-or a write that fails) and how what they print begins; the same of others for 16 MiB and a byte more; and `judge` for a history of 128 MiB, of a byte more, and for one
-without an end. Prints each end that is another; status 1 where one is.
+or a write that fails) and how what they print begins; so do others for 16 MiB and a byte more; and `judge` for a
+history of 128 MiB, of a byte more, and for one without an end. Prints each end that is another; status 1 where one is.
 (tests/checked-build.py, tests/may.py, tests/explored.py, tests/judged.py and tests/session.py look at the others.)
 """
 import os

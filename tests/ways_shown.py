@@ -1,5 +1,5 @@
 #!/usr/bin/env python3
-"""tests/ways_shown.py [--shots FOLDER]
+"""tests/ways_shown.py
 
 Holds the page of all ways (`./suites explore --page`): each way that the program tells stands on it, on a branch whose
 lines are those of the way; in a headless Chromium a click on it shows a run that ends so, the one of `--way K`; a
@@ -129,8 +129,6 @@ def pages(tally: Tally, driver: browser.Browser | None, folder: str) -> None:
         if driver:
             driver.open(played.put(os.path.join(folder, f"{name}.html"), page))
             clicked(tally, driver, name, told, len(wanted))
-            if tally.given.shots:
-                driver.shot(os.path.join(tally.given.shots, f"ways-{name}.png"))
 
 
 def large(tally: Tally) -> None:
@@ -153,4 +151,4 @@ def large(tally: Tally) -> None:
 
 
 if __name__ == "__main__":
-    played.plays(__doc__, "looked at", all_pages, large, most=20, width=600, shots="")
+    played.plays(__doc__, "looked at", all_pages, large, most=20, width=600)
