@@ -10,4 +10,5 @@ pub mod Preparing
 pub mod Steps
 pub mod Opening
 pub mod Replies
+pub mod Heard
 pub mod Witness
