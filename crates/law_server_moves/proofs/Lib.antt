@@ -11,4 +11,5 @@ pub mod Steps
 pub mod Opening
 pub mod Replies
 pub mod Heard
+pub mod Late
 pub mod Witness
