@@ -1,5 +1,5 @@
 -- What each request that is served keeps of the servers, each event keeps; so every server of a run is consistent.
-use Rattle.law_run_machine.proofs.Vocabulary.{◌≡◌, ℕ, true, false, cond, List, [], ◌∷◌, Some, sym, ap, subst, ◌==◌, Opening, Request, Stamped, State, is_full, served, fixed_of, after, set1}
+use Rattle.law_run_machine.proofs.Vocabulary.{◌≡◌, ℕ, true, false, cond, List, [], ◌∷◌, Some, sym, ap, subst, ◌==◌, ◌∙◌, Opening, Request, Stamped, State, is_full, served, fixed_of, after, set1}
 use Rattle.law_run_machine.proofs.Vocabulary.{servers_of, ServersAreConsistent}
 use Rattle.rep_core.specs.Consistency.{IsConsistent}
 use Rattle.rep_core.proofs.Consistent.{consistent_opening, consistent_step}
@@ -35,6 +35,13 @@ AllConsistent servers = (i : ℕ) → IsConsistent (servers i)
 
 pub served_is : (st : State) (asked : Stamped Request) → is_full st asked ≡ false → serving.step st asked ≡ served st asked
 served_is st asked none = ap (λ b. cond b st (served st asked)) none
+
+pub stepped_is : (given : Opening) (world : World) (i : ℕ) (st : State) (asked : Stamped Request) → server_at world i ≡ Some st → is_full st asked ≡ false
+    → set1 (servers_of given world) i (serving.step (servers_of given world i) asked) ≡ servers_of given (with_server i (served st asked) world)
+stepped_is given world i st asked there none =
+    ap (λ st. set1 (servers_of given world) i (serving.step st asked)) (server_there given world i st there)
+    ∙ ap (set1 (servers_of given world) i) (served_is st asked none)
+    ∙ servers_set given world i st (served st asked) there
 
 pub consistent_serving : (given : Opening) → ServingKeeps given AllConsistent
 consistent_serving given world i st asked there none all =

@@ -1,11 +1,12 @@
 -- The machine of a suite follows the world, event by event.
-use Rattle.law_run_machine.proofs.Vocabulary.{◌≡◌, ℕ, false, List, [], ◌∷◌, Option, Some, None, refl, sym, subst, ◌∙◌, Opening, Request, Stamped, State, reply_of, is_full, served, Response, Replied, Lacked, Job, arith}
+use Rattle.law_run_machine.proofs.Vocabulary.{◌≡◌, ℕ, false, List, [], ◌∷◌, Option, Some, None, refl, sym, ap, subst, ◌∙◌, Opening, Request, Stamped, State, reply_of, is_full, served, Response, Replied, Lacked, Job, arith}
 use Rattle.law_run_machine.proofs.Vocabulary.{Doing, fixed_of, begin, Actor, server_at, with_server, answered, operated}
-use Rattle.law_run_machine.proofs.Vocabulary.{step, after, World, set1, begun, Event, run, Obeys, Inv, all_steps, Shows, moves, AgentSide, beginning, opening_shows, decision_by, servers_of, home_in, response_events, begin_events}
+use Rattle.law_run_machine.proofs.Vocabulary.{step, after, World, set1, begun, Event, run, Obeys, Inv, all_steps, Shows, moves, hears, AgentSide, beginning, opening_shows, decision_by, servers_of, home_in, response_events, begin_events}
 use Rattle.law_run_machine.proofs.Vocabulary.{answered_events, operated_events, events_of, machine_from, history_from, MachinesFollow}
 use Rattle.law_suite_machine.proofs.Starting.{begins}
 use Rattle.law_run_machine.specs.Sides.{AskedWell, DoesWell, KeepsSide, KeepSides}
 use Rattle.law_server_moves.proofs.Steps.{each_step_moves}
+use Rattle.law_server_moves.proofs.Heard.{each_reply_is_heard}
 use Rattle.rep_core.specs.Serving as serving
 use Rattle.run_core.specs.declared.event.Event as happening
 use Rattle.run_core.specs.Worlds as worlds
@@ -13,10 +14,11 @@ use Rattle.law_server_moves.specs.Laws as steps
 use Rattle.run_core.specs.Worlds.{with_actor, lacked}
 use Rattle.law_runs.proofs.Moves.{sent, unstamped, what_of, of_operator}
 use Rattle.law_run_machine.proofs.Moves.{by_moves}
-use Rattle.law_run_machine.proofs.Servers.{servers_set, server_there, servers_open}
-use Rattle.law_run_machine.proofs.Consistent.{AllConsistent, served_is, consistent_serving, opening_consistent}
+use Rattle.law_run_machine.proofs.Servers.{server_there, servers_open}
+use Rattle.law_run_machine.proofs.Consistent.{AllConsistent, stepped_is, consistent_serving, opening_consistent}
 use Rattle.law_run_machine.proofs.Joining.{run-append, obeys-append}
 use Rattle.law_run_machine.proofs.Own.{own_shows, begun_shows}
+use Rattle.law_run_machine.proofs.Asked.{exchanged}
 
 -- ---- one event
 
@@ -35,27 +37,44 @@ module _ (given : Opening) (z : ℕ) (w : World) (world : worlds.World) (inv : I
       → AgentSide (beginning z given) z (home_in given) (decision_by z w doing) i st.locks w asked.value
       → steps.Follows (beginning z given) z (home_in given) (servers_of given (with_server i (served st asked) world)) w (moves z (home_in given) (decision_by z w doing) i w asked.value (reply_of st asked.value))
   serves doing i st asked there none agent =
+      subst (λ servers. steps.Follows (beginning z given) z (home_in given) servers w (moves z (home_in given) (decision_by z w doing) i w asked.value (reply_of st asked.value))) (stepped_is given world i st asked there none)
+      (subst (λ st. AgentSide (beginning z given) z (home_in given) (decision_by z w doing) i st.locks w asked.value → is_full st asked ≡ false
+      → steps.Follows (beginning z given) z (home_in given) (set1 (servers_of given world) i (serving.step (servers_of given world i) asked)) w
+      (moves z (home_in given) (decision_by z w doing) i w asked.value (reply_of st asked.value))) (server_there given world i st there)
+      (each_step_moves (beginning z given) z (home_in given) (servers_of given world) i w (decision_by z w doing) asked shows (all i) (inv.sound.fresh i)) agent none)
+
+  -- and of which its agent hears
+  hearing : (i : ℕ) (st : State) (asked : Stamped Request) (later : World) → server_at world i ≡ Some st → is_full st asked ≡ false
+      → Shows z (home_in given) (servers_of given (with_server i (served st asked) world)) later
+      → steps.Follows (beginning z given) z (home_in given) (servers_of given (with_server i (served st asked) world)) later (hears z i asked.value (reply_of st asked.value))
+  hearing i st asked later there none shows_later =
       let here = server_there given world i st there in
-      subst (λ servers. steps.Follows (beginning z given) z (home_in given) servers w (moves z (home_in given) (decision_by z w doing) i w asked.value (reply_of st asked.value))) (servers_set given world i st (served st asked) there)
-      (subst (λ new. steps.Follows (beginning z given) z (home_in given) (set1 (servers_of given world) i new) w (moves z (home_in given) (decision_by z w doing) i w asked.value (reply_of st asked.value))) (served_is st asked none)
-      (at_state st here agent none))
-    where
-      at_state : (st : State) → servers_of given world i ≡ st → AgentSide (beginning z given) z (home_in given) (decision_by z w doing) i st.locks w asked.value → is_full st asked ≡ false
-          → steps.Follows (beginning z given) z (home_in given) (set1 (servers_of given world) i (serving.step st asked)) w (moves z (home_in given) (decision_by z w doing) i w asked.value (reply_of st asked.value))
-      at_state st here agent none =
-          subst (λ st. AgentSide (beginning z given) z (home_in given) (decision_by z w doing) i st.locks w asked.value → is_full st asked ≡ false
-          → steps.Follows (beginning z given) z (home_in given) (set1 (servers_of given world) i (serving.step st asked)) w
-          (moves z (home_in given) (decision_by z w doing) i w asked.value (reply_of st asked.value))) here
-          (λ agent none. each_step_moves (beginning z given) z (home_in given) (servers_of given world) i w (decision_by z w doing) asked shows (all i) (λ t untold. inv.sound.asked i t untold) agent none)
-          agent none
+      let stepped = stepped_is given world i st asked there none in
+      subst (λ servers. steps.Follows (beginning z given) z (home_in given) servers later (hears z i asked.value (reply_of st asked.value))) stepped
+      (subst (λ st. steps.Follows (beginning z given) z (home_in given) (set1 (servers_of given world) i (serving.step (servers_of given world i) asked)) later (hears z i asked.value (reply_of st asked.value))) here
+      (each_reply_is_heard (beginning z given) z (home_in given) (servers_of given world) i later asked (all i) (ap (λ st. is_full st asked) here ∙ none)
+      (subst (λ servers. Shows z (home_in given) servers later) (sym stepped) shows_later)))
+
+  pub exchanges : (doing : Option Doing) (i : ℕ) (st : State) (asked : Stamped Request) → server_at world i ≡ Some st → is_full st asked ≡ false
+      → AgentSide (beginning z given) z (home_in given) (decision_by z w doing) i st.locks w asked.value
+      → steps.Follows (beginning z given) z (home_in given) (servers_of given (with_server i (served st asked) world)) w (exchanged z (home_in given) (decision_by z w doing) i w asked.value (reply_of st asked.value))
+  exchanges doing i st asked there none agent =
+      let first = moves z (home_in given) (decision_by z w doing) i w asked.value (reply_of st asked.value) in
+      let heard = hears z i asked.value (reply_of st asked.value) in
+      let does = serves doing i st asked there none agent in
+      let then = hearing i st asked (run (beginning z given) w first) there none does.shows in
+      record {
+        obeys = obeys-append (beginning z given) w first heard does.obeys then.obeys;
+        shows = subst (Shows z (home_in given) (servers_of given (with_server i (served st asked) world))) (sym (run-append (beginning z given) w first heard)) then.shows;
+      }
 
   -- ---- a step of an agent
 
   answered_comes : (number : ℕ) (actor : Actor) (i : ℕ) (asked : Request) (st : State) → server_at world i ≡ Some st → is_full st (sent actor asked) ≡ false → AskedWell given z w actor st.locks (what_of i st (sent actor asked))
       → Comes given z w (answered_events given z w actor (Some (what_of i st (sent actor asked)))) (answered (fixed_of given) world number actor st (Some (what_of i st (sent actor asked)))).world
   answered_comes number actor i asked st there is well =
-      let moved = serves actor.agent.doing i st (sent actor asked) there is well.asks in
-      let first = moves z (home_in given) (decision_by z w actor.agent.doing) i w asked (reply_of st asked) in
+      let moved = exchanges actor.agent.doing i st (sent actor asked) there is well.asks in
+      let first = exchanged z (home_in given) (decision_by z w actor.agent.doing) i w asked (reply_of st asked) in
       let own = response_events given z actor (Replied (reply_of st asked)) in
       record {
         obeys = obeys-append (beginning z given) w first own moved.obeys well.does;
@@ -77,12 +96,12 @@ module _ (given : Opening) (z : ℕ) (w : World) (world : worlds.World) (inv : I
   begin_comes number actor job well = search (begun_shows, arith)
 
   pub event_comes : (event : happening.Event) → KeepsSide given z w world event → Comes given z w (events_of given z w world event) (step (fixed_of given) world event).world
-  event_comes = by_moves given z w world (λ side events stepped. side → Comes given z w events stepped.world) (record {
-    nothing = λ _. nothing;
+  event_comes = by_moves given z w world (λ _ side events stepped. side → Comes given z w events stepped.world) (record {
+    nothing = λ _ _. nothing;
     begins = λ number actor job there well. begin_comes number actor job well;
     forgets = λ number actor site there _. record { obeys = tt; shows = shows; consistent = all };
     answers = λ number actor asked st there next at room well. answered_comes number actor asked.0 asked.1 st at room well;
-    lacks = λ number actor asked why there next well. lacked_comes number actor (Lacked why) well;
+    lacks = λ event number actor asked why by there next well. lacked_comes number actor (Lacked why) well;
     operates = λ event server asked st by there room _.
         operated_comes server asked st there (of_operator (AgentSide (beginning z given) z (home_in given) (decision_by z w None) server st.locks w) tt tt event server asked by) room;
   })

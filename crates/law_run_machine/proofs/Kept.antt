@@ -19,7 +19,7 @@ use Rattle.law_runs.proofs.Moves.{sent, unstamped, what_of, of_operator}
 use Rattle.law_run_machine.proofs.Moves.{by_moves}
 use Rattle.law_run_machine.proofs.Servers.{server_there, servers_open}
 use Rattle.law_run_machine.proofs.Consistent.{AllConsistent, opening_consistent}
-use Rattle.law_run_machine.proofs.Following.{serves, event_comes}
+use Rattle.law_run_machine.proofs.Following.{serves, exchanges, event_comes}
 use Rattle.law_run_machine.proofs.Joining.{run-append, obeys-append}
 use Rattle.law_run_machine.proofs.Quiet.{AreOf, quiet_all}
 use Rattle.law_run_machine.proofs.Linked.{Untouched, Linked, AllLinked, linked_later}
@@ -74,7 +74,7 @@ module _ (given : Opening) (z : ℕ) (w : World) (world : worlds.World) (inv : I
       (λ txn_run now left outcome doing phase same.
       subst (λ (st : State). has_prepared txn_run.task.t st.locks ≡ false) (ap (servers_of given world) same ∙ server_there given world asked.0 st at)
       (waits_first (servers_of given world) actor.agent.doing (waiting number actor there).now txn_run doing now left outcome phase)) in
-      let follows = serves given z w world inv shows all actor.agent.doing asked.0 st (sent actor asked.1) at is side in
+      let follows = exchanges given z w world inv shows all actor.agent.doing asked.0 st (sent actor asked.1) at is side in
       let later = run first w events in
       let concerns = served_concerns given z w world inv shows all number actor.agent.count actor.agent.doing asked actor.stamp st next was.1.doing at is follows.obeys follows.shows in
       let it = turn first z w later number actor.agent.count (fixed_of given) actor.agent asked (Replied said) next was.1.doing concerns in
@@ -107,8 +107,8 @@ module _ (given : Opening) (z : ℕ) (w : World) (world : worlds.World) (inv : I
   -- ---- every event
 
   pub next : (event : happening.Event) → KeepsSide given z w world event × AllLinked z (moved given z w world event) (step (fixed_of given) world event).world
-  next = by_moves given z w world (λ side events stepped. side × AllLinked z (run first w events) stepped.world) (record {
-    nothing = (tt, linked);
+  next = by_moves given z w world (λ _ side events stepped. side × AllLinked z (run first w events) stepped.world) (record {
+    nothing = λ _. (tt, linked);
     begins = λ number actor job there.
         let was = linked number actor there in
         let it = begun_so first z w number (fixed_of given) actor.agent was.0 was.1 job in (
@@ -125,7 +125,7 @@ module _ (given : Opening) (z : ℕ) (w : World) (world : worlds.World) (inv : I
               (λ u m place at small other. quiet_all first w u (u + 1) [] (next_number u) tt tt),
         );
     answers = answered_next;
-    lacks = lacked_next;
+    lacks = λ event number actor asked why by there next. lacked_next number actor asked why there next;
     operates = λ event server asked st by there room.
         let side = of_operator (AgentSide (beginning z given) z (home_in given) (decision_by z w None) server st.locks w) tt tt event server asked by in
         let follows = serves given z w world inv shows all None server st (unstamped asked) there room side in (
@@ -159,7 +159,7 @@ actor_opens start (suc count) zero actor is = search (same_Some, arith)
 actor_opens start (suc count) (suc n) actor is = search (actor_opens (start + 1) count n actor is, arith)
 
 untouched_begun : (z : ℕ) (given : Opening) (t : ℕ) → Untouched (begun (beginning z given)) t
-untouched_begun z given t = record { told = λ i. refl; aim = refl; going = record { gave_up = refl; verdict = inl refl } }
+untouched_begun z given t = record { granted = λ i. refl; told = λ i. refl; aim = refl; going = record { gave_up = refl; verdict = inl refl } }
 
 linked_opening : (z : ℕ) (given : Opening) (n : ℕ) → Linked z (begun (beginning z given)) n (agents.opening n)
 linked_opening z given n = record { index = refl; fresh = λ place past. untouched_begun z given (64 * place + n); doing = tt }

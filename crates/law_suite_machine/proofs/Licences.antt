@@ -140,7 +140,7 @@ decisions_wait start is events later obeys obey_later t decision decides may oth
 -- ---- what stays so, whatever happens
 
 -- one event
-record Good (w later : World) : Type 0 where
+pub record Good (w later : World) : Type 0 where
   pub aimed : (t : ℕ) (new : Change) → w.aim t ≡ Some new → later.aim t ≡ Some new
   pub told : (i t : ℕ) (one : Told) → w.told i t ≡ Some one → (more : Told) × (later.told i t ≡ Some more) × (more.copy ≡ one.copy)
 
@@ -170,7 +170,7 @@ good_event start w inv (Overrule u) may = good_same w _ refl refl
 good_event start w inv (Finish i u v) may = good_same w _ refl refl
 good_event start w inv (Lose keep) may = good_same w _ refl refl
 
-good_all : (start : Beginning) (w : World) → Inv start w → (later : List Event) → Obeys start w later → Good w (run start w later)
+pub good_all : (start : Beginning) (w : World) → Inv start w → (later : List Event) → Obeys start w later → Good w (run start w later)
 good_all start w inv [] may = good_same w w refl refl
 good_all start w inv (event ∷ later) may =
     let first = good_event start w inv event may.0 in
