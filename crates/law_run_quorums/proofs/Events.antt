@@ -1,34 +1,31 @@
 -- In every run collectors hold what machines told: each event of a world.
 use Rattle.law_run_quorums.proofs.Vocabulary.{Opening, Request, Reply, told_at, Task, TransactionRun, Doing, Running, RunningSweep, After, GoesOn, Ends, execute, Agent, fixed_of, next_in, next_of, take, take_in, begin, started, forget, is_idle}
 use Rattle.law_run_quorums.proofs.Vocabulary.{has_sense, max_jobs, left, Leaves, are_nil, leaves_execute, heard_by, Actor, server_at, actor_at, with_server, answered, step}
-use Rattle.law_run_quorums.proofs.Vocabulary.{Beginning, Told, World, set1, is_exclusive, Obeys, Inv, Shows, beginning, decision_by, decision_in, own_events, server_there, servers_set, AllConsistent, served_is, quiet_same, AllLinked, IsDoing}
+use Rattle.law_run_quorums.proofs.Vocabulary.{Beginning, Told, World, is_exclusive, Obeys, Inv, Shows, beginning, decision_by, decision_in, own_events, AllConsistent, quiet_same, AllLinked, IsDoing}
 use Rattle.law_run_quorums.proofs.Vocabulary.{served_at, served_concerns, lacked_concerns, others_turned, begun_so, told_to, Agrees, DoingAgrees, AllAgree, Replied, Lacked, run}
 use Rattle.txn_core.specs.declared.response.Response.{Response}
 use Rattle.law_server_moves.specs.Moves.{moves}
 use Rattle.std.proofs.Common.{◌≡◌, ℕ, ◌+◌, true, false, cond, List, [], Option, Some, None, is_some, sym, ap, subst, arith, ◌*◌, ◌&&◌, nat_lt}
-use Rattle.rep_core.specs.declared.stamped.Stamped.{Stamped}
 use Rattle.rep_core.specs.State.{State}
 use Rattle.rep_core.specs.Service.{reply_of}
 use Rattle.rep_core.specs.Serving.{answer_of, is_full, served}
 use Rattle.txn_core.specs.declared.job.Job.{Job}
 use Rattle.txn_core.specs.declared.job.Job.TheVariants.{Transaction, Sweep}
-use Rattle.law_server_moves.proofs.Replies.{replies_tell}
 use Rattle.law_runs.proofs.Asking.{asks_in_its_name}
 use Rattle.law_run_machine.specs.Machines.{servers_of, home_in, begin_events, answered_events, moved}
 use Rattle.law_run_machine.specs.Sides.{AskedWell, KeepsSide}
 use Rattle.law_runs.proofs.Moves.{sent, what_of, of_operator}
 use Rattle.law_run_machine.proofs.Moves.{by_moves}
 use Rattle.law_run_machine.proofs.Joining.{run-append}
-use Rattle.law_run_machine.proofs.Own.{own_told, begun_told}
-use Rattle.law_run_machine.proofs.Sending.{decision_told}
+use Rattle.law_run_machine.proofs.Own.{own_unheard, begun_unheard}
+use Rattle.law_run_machine.proofs.Sending.{decision_unheard}
 use Rattle.law_run_machine.proofs.Turns.{turn}
-use Rattle.law_run_machine.proofs.Following.{serves}
+use Rattle.law_run_machine.proofs.Turned.{tells}
+use Rattle.law_run_machine.proofs.Following.{exchanges}
 use Rattle.rep_core.specs.declared.request.Request.TheVariants as request
-use Rattle.rep_core.specs.Serving as serving
 use Rattle.suite_collect.specs.declared.told.Told as collect
 use Rattle.run_core.specs.declared.event.Event as happening
 use Rattle.run_core.specs.Worlds as worlds
-use Rattle.law_server_moves.specs.Laws as steps
 use Rattle.law_run_quorums.proofs.Served.{served_agrees}
 use Rattle.law_run_quorums.proofs.Agreed.{all_agree, take_agrees}
 
@@ -53,16 +50,6 @@ module _ (given : Opening) (z : ℕ) (w : World) (world : worlds.World) (inv : I
   abbrev first : Beginning
   first = beginning z given
 
-  tells : (i : ℕ) (st : State) (sent : Stamped Request) (later : World) → server_at world i ≡ Some st → is_full st sent ≡ false → Shows z (home_in given) (servers_of given (with_server i (served st sent) world)) later
-      → steps.Tells z (home_in given) i w later sent.value (reply_of st sent.value)
-  tells i st sent later there none shows_later =
-      subst (λ st. is_full st sent ≡ false → Shows z (home_in given) (set1 (servers_of given world) i (serving.step st sent)) later
-      → steps.Tells z (home_in given) i w later sent.value (reply_of st sent.value)) (server_there given world i st there)
-      (λ none shows_later. replies_tell z (home_in given) (servers_of given world) i w later sent shows none shows_later)
-      none
-      (subst (λ new. Shows z (home_in given) (set1 (servers_of given world) i new) later) (sym (served_is st sent none))
-      (subst (λ servers. Shows z (home_in given) servers later) (sym (servers_set given world i st (served st sent) there)) shows_later))
-
   -- what a request that was served told the agent
   heard : (doing : Option Doing) (asked : ℕ × Request) (stamp : ℕ) (st : State) (n count : ℕ) → next_in (fixed_of given) doing ≡ Some asked → DoingAgrees z w doing
       → server_at world asked.0 ≡ Some st → is_full st (record { stamp = stamp; value = asked.1 }) ≡ false
@@ -74,9 +61,9 @@ module _ (given : Opening) (z : ℕ) (w : World) (world : worlds.World) (inv : I
       subst (λ (other : TransactionRun). Agrees (told_to (run first w (served_at given z w world inv shows all n count (Some (Running before)) asked st)) other.task.t)
       (heard_by z (told_at other.suites z) asked.0 asked.1 (Replied (reply_of st asked.1)))) (same_only before other same)
       (served_agrees first z (home_in given) (decision_in z w before.task before.suites before.phase) asked.0 w inv.sound
-      (decision_told first z w before.task before.suites before.phase) before.task.t asked.1 (reply_of st asked.1) (told_at before.suites z)
+      (decision_unheard first z w before.task before.suites before.phase).told before.task.t asked.1 (reply_of st asked.1) (told_at before.suites z)
       (asks_in_its_name (fixed_of given) before.task before.suites before.phase asked.0 asked.1 is) obeys
-      (tells asked.0 st (record { stamp = stamp; value = asked.1 }) (run first w (served_at given z w world inv shows all n count (Some (Running before)) asked st)) there none shows_later) agrees)
+      (tells given z w world inv shows all n count asked.0 st (record { stamp = stamp; value = asked.1 }) (run first w (served_at given z w world inv shows all n count (Some (Running before)) asked st)) there none shows_later) agrees)
   heard (Some (RunningSweep sweep_run)) asked stamp st n count is agrees there none obeys shows_later other same = absurd cc
   heard None asked stamp st n count is agrees there none obeys shows_later other same = absurd cc
 
@@ -97,7 +84,7 @@ module _ (given : Opening) (z : ℕ) (w : World) (world : worlds.World) (inv : I
       let own = own_events z actor.agent.doing taken in
       subst (λ o. DoingAgrees z (run first later own) (take_in fixed actor.agent response actor.agent.doing o).agent.doing) (sym next)
       (take_agrees z w (run first later own) number actor.agent.count fixed actor.agent response actor.agent.doing asked next doing
-      (λ before same. same_told later (run first later own) before.task.t _ (own_told first z actor.agent.doing taken later) (agrees before same))
+      (λ before same. same_told later (run first later own) before.task.t _ (own_unheard first z actor.agent.doing taken later).told (agrees before same))
       (subst (λ o. IsDoing z (run first later own) number actor.agent.count (take_in fixed actor.agent response actor.agent.doing o).agent.doing) next after))
 
   lacked_turn : (number : ℕ) (actor : Actor) (asked : ℕ × Request) (why : _) → actor_at world number ≡ Some actor → next_of (fixed_of given) actor.agent ≡ Some asked
@@ -117,7 +104,7 @@ module _ (given : Opening) (z : ℕ) (w : World) (world : worlds.World) (inv : I
       let was = linked number actor there in
       let said = reply_of st asked.1 in
       let events = served_at given z w world inv shows all number actor.agent.count actor.agent.doing asked st in
-      let follows = serves given z w world inv shows all actor.agent.doing asked.0 st (sent actor asked.1) at is well.asks in
+      let follows = exchanges given z w world inv shows all actor.agent.doing asked.0 st (sent actor asked.1) at is well.asks in
       let later = run first w events in
       let it = turn first z w later number actor.agent.count (fixed_of given) actor.agent asked (Replied said) next was.1.doing
       (served_concerns given z w world inv shows all number actor.agent.count actor.agent.doing asked actor.stamp st next was.1.doing at is follows.obeys follows.shows) in
@@ -174,7 +161,7 @@ module _ (given : Opening) (z : ℕ) (w : World) (world : worlds.World) (inv : I
       let it = begun_so first z w number (fixed_of given) actor.agent was.0 was.1 job in
       let later = run first w (begin_events given z job (Some actor)) in
       all_agree z w later world number actor (record actor { agent = begin (fixed_of given) actor.agent job }) there linked agree
-      (doing_same z w later (begin (fixed_of given) actor.agent job).doing (begun_told first z actor.agent.doing (begin (fixed_of given) actor.agent job).doing w)
+      (doing_same z w later (begin (fixed_of given) actor.agent job).doing (begun_unheard first z actor.agent.doing (begin (fixed_of given) actor.agent job).doing w).told
       (began later number actor.agent job (was.1.fresh actor.agent.count (omega arith)).told (agree number actor there) it.now.doing))
       it.others
 
@@ -183,12 +170,12 @@ module _ (given : Opening) (z : ℕ) (w : World) (world : worlds.World) (inv : I
 
   -- each event keeps it, where agents keep to their side
   pub event_agrees : (event : happening.Event) → KeepsSide given z w world event → AllAgree z (moved given z w world event) (step (fixed_of given) world event).world
-  event_agrees = by_moves given z w world (λ side events stepped. side → AllAgree z (run first w events) stepped.world) (record {
-    nothing = λ _. agree;
+  event_agrees = by_moves given z w world (λ _ side events stepped. side → AllAgree z (run first w events) stepped.world) (record {
+    nothing = λ _ _. agree;
     begins = λ number actor job there _. begin_next number actor job there;
     forgets = λ number actor site there _. forget_next number actor site there;
     answers = answered_next;
-    lacks = λ number actor asked why there next _. lacked_turn number actor asked why there next;
+    lacks = λ event number actor asked why by there next _. lacked_turn number actor asked why there next;
     operates = λ event server asked st by there room _.
         all_same (run first w (moves z (home_in given) (decision_by z w None) server w asked (reply_of st asked)))
         (of_operator (λ asked. (said : Reply) → (run first w (moves z (home_in given) (decision_by z w None) server w asked said)).told ≡ w.told) (crashed server) (returned server) event server asked by (reply_of st asked));

@@ -15,7 +15,7 @@ pub use Rattle.law_server_moves.specs.Laws.{Tells, TellsCopy, beginning}
 pub use Rattle.law_server_moves.specs.Views.{Shows}
 pub use Rattle.law_suite_machine.proofs.Invariant.{Inv}
 pub use Rattle.law_suite_machine.specs.Conditions.{CoversContent, CoversPrefix, KeepsContent, Obeys, holds_exclusively, is_exclusive}
-pub use Rattle.law_suite_machine.specs.Events.{Event, Overrule, happens, run, upgraded_told}
+pub use Rattle.law_suite_machine.specs.Events.{Event, happens, run}
 pub use Rattle.law_suite_machine.specs.Machine.{Hold, IsQuorum, Told, Verdict, World, begun, set1, set2}
 pub use Rattle.law_suite_machine.specs.Registers.{Beginning, Change, Known, WasPrefix}
 pub use Rattle.rep_core.specs.declared.reply.Reply.{Reply}
