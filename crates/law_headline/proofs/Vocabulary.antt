@@ -45,7 +45,7 @@ pub use Rattle.law_server_moves.specs.Moves.{moves, prepare_of}
 pub use Rattle.law_server_moves.specs.Views.{Shows, hold_of}
 pub use Rattle.law_suite_machine.proofs.Invariant.{Inv}
 pub use Rattle.law_suite_machine.proofs.Knowing.{all_known, still_locked}
-pub use Rattle.law_suite_machine.proofs.Places.{itself}
+pub use Rattle.law_suite_machine.proofs.Places.{at2, itself}
 pub use Rattle.law_suite_machine.proofs.Steps.{all_steps}
 pub use Rattle.law_suite_machine.specs.Conditions.{IsReady, May, Obeys, holds_exclusively}
 pub use Rattle.law_suite_machine.specs.Machine.{Hold, Told, World, begun}
