@@ -130,8 +130,9 @@ def git(top: str, *words: str, hours: float = 0) -> None:
     """Has git do something in a repository, so many hours ago."""
     date = f"{time.time() - hours * HOUR:.0f} +0000"
     own = ["-c", "user.name=a", "-c", "user.email=a@b", "-c", "commit.gpgsign=false"]
-    environment = {**os.environ, "GIT_COMMITTER_DATE": date, "GIT_AUTHOR_DATE": date}
-    subprocess.run(["git", "-C", top, *own, *words], env=environment, check=True, stdout=subprocess.DEVNULL)
+    bare = {name: value for name, value in os.environ.items() if not name.startswith("GIT_")}
+    dated = {**bare, "GIT_COMMITTER_DATE": date, "GIT_AUTHOR_DATE": date}
+    subprocess.run(["git", "-C", top, *own, *words], env=dated, check=True, stdout=subprocess.DEVNULL)
 
 
 def write(top: str, path: str, text: str) -> None:
@@ -229,4 +230,7 @@ def odd_trees(tally: Tally) -> None:
 
 
 if __name__ == "__main__":
-    plays(__doc__, "looks at the gate", bind, each_has_one, pages, odd_trees)
+    of_git = (pages, odd_trees) if shutil.which("git") else ()
+    if not of_git:
+        print("changes of pages skipped: no git")
+    plays(__doc__, "looks at the gate", bind, each_has_one, *of_git)

@@ -8,10 +8,10 @@ which share a core are seen as they will be, and all bounds are scaled by the me
 they are timed once more, and the slower time counts: then it has to be passed still.
 
 Counted is what a run proved, where the rest was kept: each step against its own bound, and the sum of those of crates
-against the sum of theirs. Four copies took 11.9 and 14.6 s in the mean within two minutes, as other work on the machine
-went on: a fifth more. So a bound is a quarter above what was seen, and one step alone may be a quarter (and some
-seconds) above that; the sum of them, in which chance evens out, may not, and neither may a run from nothing be above
-the bound of all.
+against the sum of theirs. As other work went on beside it, four copies took 11.9 and 14.6 s in the mean within two
+minutes, and `byte_streams` 46 s once and 60 where the copies took 14.5: a fifth and three tenths more. So a bound is a
+quarter above what was seen, and one step alone may be a quarter (and some seconds) above that; the sum of them, in
+which chance evens out, may not, and neither may a run from nothing be above the bound of all.
 """
 import csv
 import io
