@@ -187,5 +187,9 @@ class Tries:
     @staticmethod
     def timed(crate: Crate, edit: standing.Edit) -> tuple[Verdict, float]:
         begun = time.monotonic()
-        verdict = crate.over_seed(edit) if crate.seed else crate.one(edit, None)
+        try:
+            verdict = crate.over_seed(edit) if crate.seed else crate.one(edit, None)
+        except (OSError, shutil.Error) as error:
+            # (a full disk, say)
+            verdict = Verdict(UNSURE, said=str(error))
         return verdict, time.monotonic() - begun
