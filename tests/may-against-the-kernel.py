@@ -131,9 +131,11 @@ FORMS: dict[str, Callable[[Dice, Tree, int, Count], None]] = {
     "under": ask_under,
     "many": ask_many,
     "change": may_changes.ask_changes,
+    "changes": may_changes.ask_trees,
     "default": may_changes.ask_defaults,
+    "lint": may_changes.ask_lint,
 }
-NEED_SETFACL = ("change", "default")
+NEED_SETFACL = ("change", "changes", "default", "lint")
 
 
 def is_possible(place: str | None) -> bool:

@@ -9,9 +9,10 @@ import subprocess
 import tempfile
 from typing import Callable, Iterator
 
+import kernel_trees as trees
 import played  # noqa: F401
-from asked_may import accounts, deletes, forget, may, sentences
-from kernel_trees import DENIED, GRANTED, User, tried as tried_by
+from asked_may import accounts, creates, deletes, forget, may, named_in, sentences
+from kernel_trees import DENIED, GRANTED, UNJUDGED, User, tried as tried_by
 from may_changes import Count, powers
 
 from may import linux
@@ -179,6 +180,43 @@ def chains(room: Room) -> Case:
         yield f"{name}, of which nobody may execute the last", *both(LISA, "x", room.path(name))
 
 
+def scripts_everywhere(room: Room) -> Case:
+    """An interpreter counts in --who, --with and --under too."""
+    users = [LISA, BOB]
+    program = room.file("p", 0o640)
+    os.chown(program, 0, 201)
+    os.chmod(program, 0o750)
+    script = room.file("s", 0o755, b"#!" + os.fsencode(program) + b"\n")
+    with accounts(users):
+        who, with_it = may(["--who", "x", script]).lines, may(["--with", "u:1002:rwx", program]).lines
+        of_script = may(["--with", "o::r", script]).lines
+    for user in users:
+        said = meets(user, "x", script)
+        yield f"who {user.name}", if_so(user.name in named_in(who)), said
+        yield f"under {user.name}", if_so(script in under("x", room.top, user)[1]), said
+    yield "with, of the interpreter", with_it[1:], ["  gains rwx: n1002"]
+    yield "with, of the script: bob could not execute it before", of_script[1:], ["  loses x: n1001"]
+
+
+# ---- mounts
+
+
+def odd_points(room: Room) -> Case:
+    """Folders with odd names that something is mounted on: none hides a mount, and none forges one."""
+    forged = "a\f22\x1c27\x1c0:21\x1c/\x1c/\x1cro,relatime\x1c-\x1ctmpfs\x1cnone\x1cro"
+    for name in ("f\fg", "a b", "n\nm", "t\tu", "b\\040c", "e\x1b[31m", "v\vw\x85", forged):
+        path = room.path(name)
+        os.makedirs(path)
+        room.mount(path, "-t", "tmpfs", "-o", "mode=777", "none")
+        room.file(os.path.join(name, "f"), 0o666)
+        subprocess.run(["mount", "-o", "remount,bind,ro", path], check=True)
+        forget()
+        yield f"{name!r}", *both(LISA, "w", os.path.join(path, "f"))
+        told = may([*LISA.words(), "w", "--", os.path.join(path, "f")])
+        yield f"{name!r} is shown in a line", all(line.isprintable() for line in told.lines), True
+    yield "/ is no other mount", *both(ROOT, "w", "/")
+
+
 def mount_points(room: Room) -> Case:
     """What something is mounted on is not taken away, by whichever path."""
     room.folder("a", 0o777), room.folder("b")
@@ -241,6 +279,47 @@ def slashes(room: Room) -> Case:
         yield f"delete {name}", *deletes(LISA, room.path(name))[:2]
 
 
+def growing_paths(room: Room) -> Case:
+    """A path that grows beyond 4,095 bytes through links is told as not judged."""
+    name, here = "d" * 250, os.getcwd()
+    os.chdir(room.top)
+    try:
+        for count in range(18):
+            if count % 3 == 0:
+                os.symlink("/".join([name] * 3), "l")
+            os.mkdir(name)
+            os.chdir(name)
+        open("f", "w").close()
+    finally:
+        os.chdir(here)
+    yield "a path that grows", sentences(LISA, "r", [room.path("l/l/l/l/l/l/f")])[0][0], UNJUDGED
+    yield "one that grows less", *both(LISA, "r", room.path("l/l/l"))
+    yield "under it", under("r", room.top)[0], 3
+
+
+# ---- snapshots
+
+
+def snapshots(room: Room) -> Case:
+    """Nothing is written in a snapshot of btrfs that is read-only."""
+    if room.kind != "btrfs":
+        return
+    subprocess.run(["btrfs", "subvolume", "create", room.path("s")], check=True, stdout=subprocess.DEVNULL)
+    room.file("s/f", 0o666), room.folder("s/d", 0o777)
+    os.chmod(room.path("s"), 0o777)
+    words = ["btrfs", "subvolume", "snapshot", "-r", room.path("s"), room.path("k")]
+    subprocess.run(words, check=True, stdout=subprocess.DEVNULL)
+    forget()
+    for name in ("s/f", "k/f", "s/d", "k/d", "s", "k"):
+        for verb in ("r", "w"):
+            yield f"{verb} {name}", *both(LISA, verb, room.path(name))
+    for name in ("s/new", "k/new", "k/d/new"):
+        yield f"create {name}", *creates(LISA, room.path(name))[:2]
+    for name in ("k", "s"):
+        words = ["btrfs", "subvolume", "delete", room.path(name)]
+        subprocess.run(words, check=True, stdout=subprocess.DEVNULL)
+
+
 # ---- lint
 
 
@@ -264,10 +343,40 @@ def advice(room: Room) -> Case:
     yield "nobody loses", before - after, set()
 
 
+def no_harm(room: Room) -> Case:
+    """Where a change would harm somebody, or help another, the finding alone is told."""
+    room.folder("d", 0o755), room.file("d/f", 0o644)
+    # the mask takes x from bob: a wider one would give it to him too
+    room.entries("d", "u:1001:---,u:1002:rwx,m::r")
+    room.entries("d/f", "u:1001:r")
+    found = [one for one in room.lint([LISA, BOB, THIRD]) if "reaches nobody" in one]
+    yield "it is found", len(found), 1
+    yield "nothing is advised", any("setfacl" in one for one in found), False
+
+
+# ---- who makes and takes away
+
+
+def who_names(room: Room) -> Case:
+    """Who may make a name, and take one away."""
+    users = [LISA, BOB, ROOT]
+    room.folder("d", 0o1777), room.file("d/f")
+    os.chown(room.path("d/f"), 1001, 0)
+    for verb, name in (("create", "d/new"), ("create", "d/f"), ("create", "new"), ("delete", "d/f"), ("delete", "d")):
+        with accounts(users):
+            told = may(["--who", verb, room.path(name)]).lines
+        for user in users:
+            one = sentences(user, verb, [room.path(name)])[0][0]
+            yield f"who {verb} {name}: {user.name}", if_so(user.name in named_in(told)), one
+    yield "who create d/new is tried", trees.as_user(BOB, lambda: trees.made(room.path("d/new"))), GRANTED
+    yield "who delete d/f is tried", trees.as_user(BOB, lambda: trees.taken(room.path("d/f"), False)), DENIED
+
+
 CASES: tuple[Callable[[Room], Case], ...] = (
-    planted, under_links, first_lines, chains, mount_points, sticky_links, slashes, advice,
+    planted, under_links, first_lines, chains, scripts_everywhere, odd_points, mount_points, sticky_links, slashes,
+    growing_paths, snapshots, advice, no_harm, who_names,
 )  # fmt: skip
-NEED_SETFACL = (advice,)
+NEED_SETFACL = (advice, no_harm)
 
 
 def tried(kind: str, place: str) -> Count:

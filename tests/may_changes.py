@@ -8,7 +8,7 @@ import subprocess
 from typing import Iterable, Iterator
 
 import kernel_trees as trees
-from asked_may import accounts, forget, may
+from asked_may import accounts, forget, may, unquoted
 from kernel_trees import ACCESS, DEFAULT, GRANTED, GROUP, MASK, OTHER, OWNER, OWNING, USER, Dice, Tree, User, letters
 
 BITS = (4, 2, 1)
@@ -147,6 +147,47 @@ def ask_changes(dice: Dice, tree: Tree, until: int, count: Count) -> None:
         count.asked += len(users) * 3
 
 
+def below(top: str) -> list[str]:
+    """What lies under a folder, and no link."""
+    found = [top]
+    for place, folders, files in os.walk(top):
+        found += [os.path.join(place, name) for name in [*folders, *files]]
+    return [path for path in found if not os.path.islink(path)]
+
+
+def has_entry(path: str, text: str) -> bool:
+    tag = {"u": USER, "g": GROUP}[text[0]]
+    return any(one[0] == tag and one[2] == int(text.split(":")[1]) for one in trees.unpacked(path))
+
+
+def ask_trees(dice: Dice, tree: Tree, until: int, count: Count) -> None:
+    """Who gains and who loses by a change of each list of a tree?"""
+    loosened(tree)
+    begun = count.asked
+    tops = [path for path in tree.paths if os.path.isdir(path) and can_change(path) and path == os.path.realpath(path)]
+    for _ in range(3 if tops else 0):
+        top, is_put, users = dice.choice(tops), dice.random() < 0.5, users_of(dice, 4)
+        text = an_entry(dice, is_put)
+        with accounts(users):
+            told = may(["--with" if is_put else "--without", text, f"--under={top}"])
+        paths = below(top)
+        count.asked += len(paths) * len(users) * 3
+        if told.status != 0:
+            continue
+        before, states = powers(users, paths), {path: kept(path) for path in paths}
+        changed = [path for path in paths if is_put or has_entry(path, text)]
+        done = all([setfacl(["-m" if is_put else "-x", text], path) for path in changed])
+        after = powers(users, paths)
+        for path, state in states.items():
+            put_back(path, state)
+        rows = {unquoted(one): rest.split("; ") for one, _, rest in (line.partition("  ") for line in told.lines)}
+        for path in paths if done else ():
+            wanted, says = moved(before, after, path), moved_in(rows.get(path, ()))
+            if wanted != says:
+                count.differs(f"{text} under {top!r}: {path!r}", f"{says}", f"{wanted}", rows.get(path, []))
+    count.asked = max(count.asked, begun + (until - begun) // 3)
+
+
 def ask_defaults(dice: Dice, tree: Tree, until: int, count: Count) -> None:
     """What will new files be?"""
     loosened(tree)
@@ -192,4 +233,80 @@ def made_in(users: list[User], news: list[str]) -> tuple[set[Power], list[str]]:
     found = powers(users, news), [list_of(path) for path in news]
     os.unlink(news[0])
     os.rmdir(news[1])
+    return found
+
+
+# ---- lint
+
+
+def split(line: str) -> tuple[str, str]:
+    """The path of a line of --lint, and what is said of it."""
+    match = re.match(r'("(?:[^"\\]|\\.)*"|[^:]*): (.*)', line)
+    return unquoted(match[1]), match[2]
+
+
+def ask_lint(dice: Dice, tree: Tree, _: int, count: Count) -> None:
+    """What is to be mended? Whom an entry does not reach is tried, and whom none is told of reaches the file's folder.
+    Each advice is typed, and just those may gain whom it names."""
+    loosened(tree)
+    users = [User(uid, dice.choice(trees.GIDS), (), f"n{uid}") for uid in trees.UIDS]
+    with accounts(users):
+        told = may([f"--lint={tree.top}"])
+    lines = [split(line) for line in told.lines if not line.startswith("suites: ")]
+    stopped = {(path, said.split(" reaches nobody")[0]) for path, said in lines if " reaches nobody" in said}
+    before = count.asked
+    ask_reach(tree, users, stopped, count)
+    for path, said in lines:
+        advice = re.search(r": (setfacl .*)", said)
+        if advice:
+            count.asked += len(users) * 3
+            tries_advice(users, advice[1], f"{path!r}: {said}", count)
+    count.asked = max(before + 1, count.asked)
+
+
+def ask_reach(tree: Tree, users: list[User], stopped: set[tuple[str, str]], count: Count) -> None:
+    for path in tree.paths:
+        if os.path.islink(path) or not os.path.exists(path) or path != os.path.realpath(path):
+            continue
+        entries = trees.unpacked(path)
+        mask = next((perms for tag, perms, _ in entries if tag == MASK), 7)
+        for tag, perms, one in entries:
+            whom = [user for user in users if tag == USER and user.uid == one or tag == GROUP and user.has(one)]
+            if not whom or not perms & mask:
+                continue
+            reach = [trees.as_user(user, lambda: trees.checked(os.path.dirname(path), 1)) == GRANTED for user in whom]
+            entry = text_of([(tag, perms, one)])
+            count.asked += 1
+            if ((path, entry) in stopped) == any(reach):
+                count.differs(f"{path!r} {entry}", (path, entry) in stopped, not any(reach), [])
+
+
+def tries_advice(users: list[User], command: str, about: str, count: Count) -> None:
+    """Types an advice in a shell; nobody may lose by it, and nobody gain whom it does not name."""
+    found = subprocess.run(
+        ["bash", "-c", f"set -- {command}; printf '%s\\0' \"$@\""], stdout=subprocess.PIPE, check=True
+    )
+    *flags, _, path = map(os.fsdecode, found.stdout.split(b"\0")[:-1])
+    entry, state, before = flags[-1].split(":"), kept(path), powers(users, [path])
+    named = whom(path, entry, users)
+    done = subprocess.run(["bash", "-c", command], stderr=subprocess.PIPE, text=True)
+    after = powers(users, [path])
+    put_back(path, state)
+    gained = {name for name, _, _ in after - before}
+    if done.returncode != 0 or before - after or gained - named:
+        count.differs(about, "mends", f"{done.stderr} loses {before - after}, gains {gained - named}", [command])
+
+
+def whom(path: str, entry: list[str], users: list[User]) -> set[str]:
+    """Whom an advice may help."""
+    kind, one = entry[0], entry[1]
+    if kind == "u":
+        return {user.name for user in users if str(user.uid) == one}
+    if kind == "g" and one:
+        return {user.name for user in users if user.has(int(one))}
+    found, group = set[str](), os.stat(path).st_gid
+    for tag, perms, number in trees.unpacked(path):
+        if perms and tag in (USER, GROUP, OWNING):
+            number = group if tag == OWNING else number
+            found |= {user.name for user in users if (user.uid == number if tag == USER else user.has(number))}
     return found

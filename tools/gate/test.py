@@ -129,7 +129,7 @@ PARTS = (
     Part("damaged scripts", test("damaged-scripts.py", "--cases", "200"), [PROGRAM]),
     Part("command lines of documents", test("typed.py"), [PROGRAM]),
     Part("verdicts on histories", test("judged.py"), [PROGRAM]),
-    Part("verdicts on what callers saw", test("logged.py"), [PROGRAM]),
+    Part("verdicts on what callers saw", test("logged.py", "--runs", "60"), [PROGRAM]),
     Part("how programs end", test("statuses.py"), [PROGRAM]),
     Part(
         "may against the kernel",
@@ -156,7 +156,8 @@ LONG = (
     Part("the page of all ways", test("ways_shown.py"), [PROGRAM]),
     Part("everything that can happen, each way", test("explored.py", "--every", "1"), [PROGRAM]),
     Part("many orders that are drawn", test("sampled.py", "--scripts", "30", "--orders", "2000"), [PROGRAM]),
-    Part("many orders of decisions", test("ordered.py", "--runs", "20", "--ways", "40"), [PROGRAM]),
+    Part("many orders of decisions", test("ordered.py", "--runs", "20", "--ways", "40", "--small", "4"), [PROGRAM]),
+    Part("verdicts on what many callers saw", test("logged.py"), [PROGRAM]),
     Part("many damaged scripts", test("damaged-scripts.py", "--cases", "2000"), [PROGRAM]),
     Part("programs of tests and measurements", test("compiled.py")),
     Part("instructions", test("instructions.py")),

@@ -43,10 +43,10 @@ static USING: Round = Round {
 13 10 Answered(Answers { replies: [Wrote] })
 14 10 Answered(Answers { replies: [Wrote] })
 15 10 Answered(Answers { replies: [Wrote] })
-16 8 Answered(Answers { replies: [List([f0, f1, f2, f3, f4, f5, f6, f7])] })
-17 8 Answered(Answers { replies: [List([f0, f1, f2, f3, f4, f5, f6, f7])] })
-18 8 Answered(Answers { replies: [List([f0, f1, f2, f3, f4, f5, f6, f7])] })
-19 8 Answered(Answers { replies: [List([f0, f1, f2, f3, f4, f5, f6, f7])] })",
+16 8 Answered(Answers { replies: [List(NameList { folder: [(f0, 1), (f1, 513), (f2, 1025), (f3, 1537), (f4, 2049), (f5, 2561), (f6, 3073), (f7, 3585)] })] })
+17 8 Answered(Answers { replies: [List(NameList { folder: [(f0, 1), (f1, 513), (f2, 1025), (f3, 1537), (f4, 2049), (f5, 2561), (f6, 3073), (f7, 3585)] })] })
+18 8 Answered(Answers { replies: [List(NameList { folder: [(f0, 1), (f1, 513), (f2, 1025), (f3, 1537), (f4, 2049), (f5, 2561), (f6, 3073), (f7, 3585)] })] })
+19 8 Answered(Answers { replies: [List(NameList { folder: [(f0, 1), (f1, 513), (f2, 1025), (f3, 1537), (f4, 2049), (f5, 2561), (f6, 3073), (f7, 3585)] })] })",
 };
 
 /// Has jobs carried out, and compares how they ended.

@@ -73,7 +73,7 @@ struct Step(Option<u8>, u8, Ask, &'static str);
 
 const RUN: [Step; 7] = [
     Step(Some(0), 0, Ask::Shared(0), "1: Held 1"),
-    Step(Some(0), 1, Ask::Locks, "2: Locked 0"),
+    Step(Some(0), 1, Ask::Locks, "2: Locked(LockList { locks: [] })"),
     Step(
         Some(1),
         0,

@@ -96,7 +96,7 @@ fn meet<R: Abort + AllocGlobal + Threads + Wait + Sync>(
 }
 
 static ENDS: &str = "
-0 8 Answered(Answers { replies: [List([])] })
+0 8 Answered(Answers { replies: [List(NameList { folder: [] })] })
 1 1 Swept { broken: 0, finished: 0, left: 0 }";
 
 #[test]
