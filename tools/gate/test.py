@@ -149,6 +149,7 @@ PARTS = (
     Part("pictures", test("drawn.py"), [PROGRAM]),
     Part("events", test("events.py"), [PROGRAM]),
     Part("pages in a browser", test("shown_page.py"), [PROGRAM]),
+    Part("what pages in a browser say", test("page_told.py"), [PROGRAM]),
     Part("the page of all ways", test("ways_shown.py"), [PROGRAM]),
     Part("the page of a session", test("live_page.py"), [PROGRAM]),
     Part("work done anew", test("work.py"), [PROGRAM]),
