@@ -143,6 +143,7 @@ PARTS = (
     Part("sessions and their journals", test("session.py"), [PROGRAM]),
     Part("events and pictures", test("events.py"), [PROGRAM]),
     Part("pages in a browser", test("shown_page.py"), [PROGRAM]),
+    Part("what pages in a browser say", test("page_told.py"), [PROGRAM]),
     Part("the page of a session", test("live_page.py"), [PROGRAM]),
     Part("work done anew", test("work.py"), [PROGRAM]),
     Part("some lies about runs", test("lies.py", "--cases", "200"), [PROGRAM]),
