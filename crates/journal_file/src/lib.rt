@@ -5,19 +5,19 @@
 //! leaves is `CrashLeaves`. A file over memory tells all that. One of the system (`SystemFile`) tells nothing, since
 //! nothing is known of what a file holds: that it does what `OneFile` says is believed.
 //!
-//! **Files**: `one_file` (the trait), `place` (where files are found), `memory` (of tests), `system`, `reading` (its
+//! **Files**: `one_file` (the trait), `disk` (where files are found), `memory` (of tests), `system`, `reading` (its
 //! bytes as a stream).
 //! **Definitions** (`specs/`): `Files`.
 #![tactic(auto)]
 
+mod disk;
 mod memory;
 mod one_file;
-mod place;
 mod reading;
 mod system;
 
+pub use disk::{Disk, SystemDisk};
 pub use memory::MemoryFile;
 pub use one_file::{FileFailed, OneFile};
-pub use place::{Place, SystemPlace};
 pub use reading::FileReader;
 pub use system::SystemFile;

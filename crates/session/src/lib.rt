@@ -32,7 +32,7 @@ ghost use Rattle.line_session.specs.InTime.{AnswersAll, Speaks};
 ghost use Rattle.session.specs.Held.{Begins, Holds, HoldsAlone, IsFault, restored_text};
 
 use byte_streams::{ByteIn, ByteOut, COMMAND_LINE, DONE, NO_STREAM, finish, lack_memory};
-use journal_file::{OneFile, Place, SystemPlace};
+use journal_file::{Disk, OneFile, SystemDisk};
 use line_session::{Desk, Journal, SystemTalk, Talk, session};
 use opened::open_journal;
 use refusal::{Refusal, tell_refusal};
@@ -62,7 +62,7 @@ pub fn obey<R: Files<File = File>, I: ByteIn + Drop, O: ByteOut + Drop>(
             begin(
                 alloc,
                 &mut desk,
-                &SystemPlace::new(rt),
+                &SystemDisk::new(rt),
                 Asked { name, wish },
                 streams,
             )
@@ -86,19 +86,19 @@ struct Streams<I: ByteIn + Drop, O: ByteOut + Drop> {
 }
 
 /// Holds a session, with the journal where one is named, and says the exit status.
-fn begin<D: Desk, F: OneFile + Drop, P: Place<F>, I: ByteIn + Drop, O: ByteOut + Drop>(
+fn begin<D: Desk, F: OneFile + Drop, P: Disk<F>, I: ByteIn + Drop, O: ByteOut + Drop>(
     alloc: Global,
     desk: &mut D,
-    place: &P,
+    disk: &P,
     asked: Asked<'_>,
     streams: Streams<I, O>,
 ) -> u8
-    ensures { Begins D.kind D.text D.next D.Leaves asked.entry.wish asked.entry.name.now (P.found place.now) result desk.old desk.new }
+    ensures { Begins D.kind D.text D.next D.Leaves asked.entry.wish asked.entry.name.now (P.found disk.now) result desk.old desk.new }
 {
     if asked.wish.name.is_none() {
         return hold_alone::<D, F, I, O>(alloc, desk, asked.wish.marks, streams);
     }
-    match place.open(asked.name) {
+    match disk.open(asked.name) {
         Ok(file) => hold(alloc, desk, file, asked, streams),
         Err(_) => {
             let mut writer = streams.writer;
