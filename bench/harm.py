@@ -8,9 +8,9 @@ each tell the ways of the scripts of examples/explore and tests/explored, up to 
 worlds, in which an answer that was decided is not that of the plain table, in the order of the decisions
 (tools/compare); where the ways are as they are to be, it plays their scripts. And it plays the rows of `play`.
 
-Writes docs/wrong-bodies-shown.txt: of each edit what comes of it, in which story, and the fewest events that show it.
-`python3 tools wrong_bodies_page` tables that. With --keep the program stays in this folder, and is taken from there
-the next time. Takes some fifteen minutes of processor time; none of it is part of the gate.
+Prints of each edit what comes of it, in which story, the fewest events that show it, and how many rows are answered
+otherwise. With --keep the program stays in this folder, and is taken from there the next time. Takes some fifteen
+minutes of processor time; none of it is part of the gate.
 """
 import functools
 import json
@@ -35,7 +35,6 @@ import explored
 
 # What is compared of a way.
 Shortening = typing.Callable[[tuple[str, ...]], tuple[str, ...]]
-SHOWN = os.path.join(measure.TOP, "docs", "wrong-bodies-shown.txt")
 # A wrong body may make a run that never ends, or that takes all memory: so many seconds of a processor and bytes it
 # has, and so many times the worlds that there are to be.
 MOST_SECONDS, MOST_BYTES, MOST_TIMES = 2, 2 << 30, 2
@@ -330,9 +329,8 @@ def main() -> None:
             for number, edit in enumerate(tried, 1)
             if twice.changes_of(edit) and given.only in (None, f"{edit.crate}/{edit.name}")
         ]
-        target = sys.stdout if given.only else open(SHOWN, "w", encoding="utf-8")
         for place, (number, edit) in enumerate(chosen):
-            print(f"{chr(10) if place else ''}{shown(folder, edit, number)}", end="", file=target, flush=True)
+            print(f"{chr(10) if place else ''}{shown(folder, edit, number)}", end="", flush=True)
 
 
 if __name__ == "__main__":

@@ -26,31 +26,15 @@ OPTIONS = ("--crashes", "--returns", "--forgets", "--stops")
 FAULTS = (
     ("", "and not nothing"),
     ("0.1", "is told how it ended"),
-    ("0.1 done", "no job ends so: done"),
     ("0.1 answered sett", "no job ends so: answered sett"),
-    ("0.1 answered set; rote", "no job ends so"),
-    ("0.1 undecided U8", "no job ends so"),
     ("0.1 undecided U2 sever 0", "no job ends so"),
-    ("1.0 answered read 686", "no job ends so"),
-    ("0.1 stopped now", "no job ends so"),
-    ("0.1 answered and", "and not nothing"),
     ("or 0.1 answered", "and not or"),
     ("(0.1 answered", "a bracket is not closed"),
-    ("0.1 before", "and not nothing"),
     ("0.1 before answered", "and not answered"),
-    ("0.1 before 1.0 set", "the end stands here, and not set"),
-    ("0.1 before 1.1", "there is no job 1.1 below together, but 0.1, 1.0"),
     ("1.1 before 0.1", "there is no job 1.1 below together, but 0.1, 1.0"),
-    ("0.1 answered)", "and not )"),
-    ("0.1 answered 1.0 answered", "no job ends so"),
-    ("0.2 answered", "there is no job 0.2 below together, but 0.1, 1.0"),
-    ("00.1 answered", "there is no job 00.1"),
-    ("0.0 answered", "there is no job 0.0"),
     ("2.0 answered", "there is no job 2.0"),
     ("( " * 150 + "0.1 answered" + " )" * 150, "at most 200 words"),
 )
-
-
 # Endings that say that a transaction was decided, and the word before the jobs that were, in their order.
 DECIDED, ORDER = ("answered", "denied", "refused"), "decided"
 # Stories of which it is asked what was decided first, with words.

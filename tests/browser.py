@@ -1,5 +1,4 @@
 """A headless Chromium that a test drives: the protocol of its developer tools goes over two pipes."""
-import base64
 import contextlib
 import json
 import os
@@ -133,12 +132,6 @@ class Browser:
             raise RuntimeError(str(done["exceptionDetails"]))
         return done["result"].get("value")
 
-    def busy(self) -> float:
-        """How many milliseconds the page has used its processor."""
-        self.ask("Performance.enable", {"timeDomain": "threadTicks"})
-        told = {one["name"]: one["value"] for one in self.ask("Performance.getMetrics")["metrics"]}
-        return 1000 * told["TaskDuration"]
-
     def press(self, key: str, times: int = 1) -> None:
         how = {"key": key, "code": "Space" if key == " " else key, "windowsVirtualKeyCode": KEYS[key]}
         how |= {"text": {" ": " ", "Enter": "\r"}[key]} if key in (" ", "Enter") else {}
@@ -146,11 +139,6 @@ class Browser:
             self.tell("Input.dispatchKeyEvent", {"type": "keyDown", **how})
             told = self.ask if place % 16 == 15 or place == times - 1 else self.tell
             told("Input.dispatchKeyEvent", {"type": "keyUp", **how})
-
-    def type(self, selector: str, text: str) -> None:
-        """Types a text into a field, in place of what stands there."""
-        self.value(f"(() => {{ const e = document.querySelector({json.dumps(selector)}); e.focus(); e.select(); }})()")
-        self.ask("Input.insertText", {"text": text})
 
     def click(self, selector: str) -> None:
         """Clicks the middle of an element."""
@@ -161,24 +149,6 @@ class Browser:
             how = {"type": kind, "x": box[0], "y": box[1], "button": "left", "clickCount": 1}
             self.ask("Input.dispatchMouseEvent", how)
 
-    def point(self, selector: str) -> None:
-        """Points at the middle of an element."""
-        box = self.value(f"(() => {{ const b = document.querySelector({json.dumps(selector)}).getBoundingClientRect();"
-                         " return [b.left + b.width / 2, b.top + b.height / 2]; })()")
-        self.ask("Input.dispatchMouseEvent", {"type": "mouseMoved", "x": box[0], "y": box[1]})
-
     def size(self, width: int, height: int) -> None:
         how = {"width": width, "height": height, "deviceScaleFactor": 1, "mobile": False}
         self.ask("Emulation.setDeviceMetricsOverride", how)
-
-    def scheme(self, name: str) -> None:
-        """The system's wish: dark or light."""
-        self.ask("Emulation.setEmulatedMedia", {"features": [{"name": "prefers-color-scheme", "value": name}]})
-
-    def shot(self, path: str) -> None:
-        with open(path, "wb") as file:
-            file.write(base64.b64decode(self.ask("Page.captureScreenshot", {"format": "png"})["data"]))
-
-    def pages_printed(self) -> bytes:
-        """The page as it is printed, as PDF."""
-        return base64.b64decode(self.ask("Page.printToPDF", {"landscape": True})["data"])

@@ -1,32 +1,49 @@
 #!/usr/bin/env python3
-"""tests/events.py
+"""tests/events.py [--seeds N] [PROGRAM]
 
-Holds docs/events.schema.json against what `./suites trace --json` prints of all stories, of the scripts of
-tests/drawn.py, and of random ones. What servers and agents had by the changes that each event tells has to be what the
-program tells at the end, an agent has to have gathered the locks that replies gave, and all that `trace` tells in lines
-has to be told in the objects too. Without what is told in full besides, an event has to be the program's; the jobs
-that begin have to be those of the trace, and so have the paths. Status 1 where something differs.
+Holds what is told and drawn of the runs of all stories, of small scripts and of N random ones (12) against the lines
+that the program's `trace` prints: what `./suites trace` prints; the objects of `./suites trace --json`, by
+docs/events.schema.json, by these lines, and by what servers and agents have at the end; and the pictures of
+`./suites draw`, read as XML: each request is an arrow, and nothing is off the canvas. Status 1 where something differs.
 """
 import importlib.util
+import io
 import json
 import os
 import re
+import xml.etree.ElementTree as etree
 from collections.abc import Iterator
 from typing import Any
 
-import drawn
 import played
 import traced
 from played import Tally
+from scripting import job, script_of
 
-from common import built, text_of
+from common import built, text_of, tool
 from compare import scenario
-from explain import play_lines
 from show import show
-from trace import json_events, states
+from trace import json_events, states, trace
+from trace.events import Run
+from trace.paths import paths
 
-# Words of an ending beside its parts.
-WORDS = ("op", "suite", "wants", "by", "got", "of", "server", "holder")
+# Most requests that are drawn unasked.
+MOST = 2000
+LONG = "/a-name-of-more-letters-than-there-is-room-for-between-two-lines"
+SCRIPTS = {
+    "two": script_of(
+        2, 2, "1,1/1/2", job("folder /d 777 ; file /d/f 644 ; write /d/f 6869").rstrip(), "forget 1 0",
+        job("read /d/f", 1, "2000 100").rstrip(), "crash 1", job("write /d/f " + "00" * 200).rstrip(), "return 1",
+        job("write /d/f 00", 1, "2000 100").rstrip(), "sweep 1 0", "run 1",
+    ),
+    "twenty": script_of(
+        20, 6, ",".join(["1"] * 9 + ["-"] * 10 + ["1"]) + "/6/6", job("file /a 666 ; write /a 00").rstrip(),
+        job(f"file {LONG} 600", 5).rstrip(), "crash 12", job("read /a", 3).rstrip(), "begin 0 1000 100 0 read /a",
+        "step 0 5", "audit 0",
+    ),
+    "still": script_of(3, 3, "1/1/1"),
+}  # fmt: skip
+SVG = "{http://www.w3.org/2000/svg}"
 
 
 def schema() -> Any:
@@ -38,60 +55,8 @@ def schema() -> Any:
     return library.Draft202012Validator(json.loads(text_of("docs", "events.schema.json")))
 
 
-def scripts() -> Iterator[tuple[str, str]]:
-    yield from played.stories().items()
-    yield from drawn.SCRIPTS.items()
-    for seed in range(30):
-        yield f"seed {seed}", scenario.Scenario(seed, 200).script()
-
-
-def letters(one: dict) -> dict[int, str]:
-    """Which servers hold which lock on a suite that was gathered."""
-    return {server: letter for server, letter in enumerate(one["held"]) if letter != "-"}
-
-
-class Talk:
-    """What the replies to an agent say that it gathered and keeps, as far as replies alone say it: which locks servers
-    hold for its transaction, and what was fetched at which version."""
-
-    def __init__(self, event: dict) -> None:
-        self.locks: dict[int, dict[int, str]] = {}
-        self.fetched: set[int] = set()
-        self.number = event["agent"]
-
-    def hear(self, event: dict) -> None:
-        asked, said = event.get("request", {}), event["reply"]["says"]
-        if said == "held":
-            letter = "x" if asked.get("mode") != "shared" else "s"
-            self.locks.setdefault(asked["suite"], {})[event["server"]] = letter
-        if said == "given":
-            self.fetched.add(asked["suite"])
-
-
-def talks(events: list[dict]) -> Iterator[tuple[dict, bool]]:
-    """Where an event tells otherwise of an agent than the requests and replies say: of each event what differs, if
-    anything does.
-    """
-    heard = {one["agent"]: Talk(one) for one in events[0]["agents"]}
-    run = states.Retold(events[0])
-    for event in events[1:-1]:
-        by = event.get("by")
-        if not by:
-            continue
-        run.hear(event)
-        own, talk = run.bare[by["agent"]], heard[by["agent"]]
-        if event["kind"] == "request":
-            talk.hear(event)
-        if "end" in event or own["stage"] == "idle":
-            talk = heard[by["agent"]] = Talk(own)
-            yield event, own["gathered"] == []
-            continue
-        yield event, {one["suite"]: letters(one) for one in own["gathered"] if letters(one)} == talk.locks
-        yield event, talk.fetched <= {one["suite"] for one in own["gathered"] if one["open"]}
-
-
 def lines_of(events: list[dict]) -> Iterator[str]:
-    """What a trace tells in lines, as far as it is the same words: lines of the script, requests, and what `play`
+    """What events tell in lines, as far as it is the same words: lines of the script, requests, and what `play`
     prints.
     """
     for event in events[1:-1]:
@@ -124,90 +89,93 @@ def lines_in(lines: list[str]) -> Iterator[str]:
             yield "nothing" if line.startswith("  nothing") else line
 
 
-def bare(event: dict) -> dict:
-    """An event without what is told in full besides."""
-    own = {name: part for name, part in event.items() if name not in ("begun", "paths")}
-    if "end" in own:
-        own["end"] = {name: own["end"][name] for name in ("agent", "job", "requests", "text")}
-    for lists in (own.get("at", {}), own.get("audit", {}), *own.get("servers", ())):
-        if "denials" in lists:
-            lists["denials"] = [{name: one[name] for name in ("t", "uid", "denied")} for one in lists["denials"]]
-    return own
-
-
-def said_again(end: dict) -> str:
-    """How a job ended, by the parts that are told."""
-    parts = [str(part) for name, part in end.items() if name not in ("agent", "job", "requests", "text", "how")]
-    return " ".join([end["how"], *parts]) if end["how"] != "answered" else f"answered {'; '.join(end['replies'])}"
-
-
-def begun_by(run: play_lines.Played, job: play_lines.Job) -> dict[str, Any]:
-    """A job as an event tells it."""
-    words, told = job.words, {"agent": job.agent, "job": job.count}
-    if words[0] == "sweep":
-        return {**told, "sweeps": int(words[2])}
-    groups = [int(gid) for gid in words[3].split(",")]
-    whose = {"home": run.home(job), "user": int(words[2]), "groups": groups, "site": int(words[4])}
-    return {**told, "t": job.t, **whose, "operations": job.operations}
-
-
-def jobs_in(lines: list[str]) -> list[str]:
-    """The jobs that begin, by the lines of a trace, each by its agent and its number."""
-    heads = [(head.split(), block) for head, block in traced.blocks(lines)]
-    agents = [int(words[2]) for words, block in heads if words[1] in ("begin", "sweep") and not block]
-    return [f"{agent}.{agents[:place].count(agent)}" for place, agent in enumerate(agents)]
-
-
-def in_full(tally: Tally, name: str, events: list[dict], lines: list[str]) -> None:
-    """Holds what is told in full against the trace: jobs that begin, ends, and paths."""
-    run = play_lines.Played(events, events)
-    begun = [event["begun"] for event in events if "begun" in event]
-    wanted = [begun_by(run, job) for job in sorted(run.jobs.values(), key=lambda job: job.begun)]
-    tally.holds([f"{one['agent']}.{one['job']}" for one in begun] == jobs_in(lines), name, "jobs of the trace", begun)
-    tally.holds(begun == wanted, name, "jobs that begin", [one for one in begun if one not in wanted][:2])
+def objects(tally: Tally, name: str, bare: list[str], lines: list[str], rules: Any) -> None:
+    """The objects: what they say, by the schema and the lines; and what changed, which comes to what is at the end."""
+    fuller = json_events.Fuller()
+    events = [json.loads(fuller.of(line.encode())) for line in bare]
     for event in events:
-        end = event.get("end")
-        if end:
-            text = [word for word in end["text"].split() if word not in WORDS or end["how"] == "answered"]
-            tally.holds(said_again(end) == " ".join(text), name, "an end in full", end)
-    paths = {int(suite): path for event in events for suite, path in event.get("paths", {}).items()}
-    tally.holds({0: "/", **paths} == traced.paths(lines), name, "paths", paths, traced.paths(lines))
+        fault = next(rules.iter_errors(event), None) if rules else None
+        tally.holds(fault is None, name, "event", event.get("event"), fault)
+    run = states.Retold(events[0])
+    for event in events[1:-1]:
+        run.hear(event)
+    tally.holds(run.standing() == events[-1]["servers"], name, "what changed is not what there is at the end")
+    tally.holds(run.agents() == events[-1]["agents"], name, "agents by their changes")
+    told = {int(suite): path for event in events for suite, path in event.get("paths", {}).items()}
+    tally.same({0: "/", **told}, traced.paths(lines), name, "paths")
+    for own, wanted in zip([*lines_of(events), None], [*lines_in(lines), None]):
+        tally.same(own, wanted, name, "told")
 
 
-def typed(tally: Tally) -> None:
-    """What the command prints is what is looked at here, and of a fault its line."""
-    script = next(iter(played.stories().values())).encode()
-    words, fuller = [os.path.join(played.TOP, "suites"), "trace", "--json"], json_events.Fuller()
-    for given, status in ((script, 0), (script + b"none\n", 3)):
-        lines = [line.encode() + b"\n" for line in show.events_of(script)] if status == 0 else []
-        wanted = b"".join(map(fuller.of, lines)).decode() or f"fault line {script.count(10) + 1}: S1\n"
-        tally.same(played.done(words, given)[:2], (status, wanted), "the command")
-    for more in (["--json", "x"], ["--json", ""], ["x", "--json"]):
-        tally.same(built.asked("trace", "", *more), (2, "fault command line\n"), "words", more)
+def written(script: str) -> str:
+    """What `./suites trace` writes."""
+    out = io.BytesIO()
+    with Run(script.encode()) as run:
+        trace.write_all(run, out, None)
+    return out.getvalue().decode("latin1")
+
+
+def drawn(script: str, *words: str) -> tuple[int, str, str]:
+    done = played.done(tool("draw", *words), script.encode())
+    return done.status, done.out.encode("latin1").decode(), done.err
+
+
+def arrows(text: str) -> list[tuple[int, ...]]:
+    """The arrows of a picture's requests: where each begins, how high, and where it ends."""
+    ways = [path.get("d") for path in etree.fromstring(text).iter(f"{SVG}path") if path.get("class") == "ask"]
+    return [tuple(map(int, re.findall(r"\d+", way))) for way in ways]
+
+
+def picture(tally: Tally, name: str, script: str, lines: list[str]) -> None:
+    """A picture: an arrow for each request, from its agent to its server; whoever acts is named; and all is on it."""
+    text = drawn(script, "--anyway")[1]
+    root = etree.fromstring(text)
+    wide, high = int(root.get("width")), int(root.get("height"))
+    texts = [*root.iter(f"{SVG}text")]
+    for one in texts:
+        is_on = 0 <= int(one.get("x")) <= wide and 0 <= int(one.get("y")) <= high
+        tally.holds(is_on, name, "off the canvas", one.text)
+        tally.holds((one.text or "").endswith("…") == (one.find(f"{SVG}title") is not None), name, "cut", one.text)
+    places = {int(one.get("x")): one.text for one in texts if one.get("class") == "name"}
+    asked = [traced.REQUEST.match(line) for line in lines]
+    wanted = [(f"agent {found[1]}", f"server {found[2]}") for found in asked if found]
+    tally.same([(places[begin], places[end]) for begin, _, end in arrows(text)], wanted, name, "arrows")
 
 
 def every_script(tally: Tally) -> None:
     rules = schema()
-    for name, script in scripts():
-        bare_lines, fuller = show.events_of(script.encode()), json_events.Fuller()
-        events = [json.loads(fuller.of(line.encode())) for line in bare_lines]
-        for line, event in zip(bare_lines, events):
-            tally.holds(bare(json.loads(json.dumps(event))) == json.loads(line), name, "another event", line)
-            fault = next(rules.iter_errors(event), None) if rules else None
-            tally.holds(fault is None, name, "event", event.get("event"), fault)
-        tally.holds([event["event"] for event in events] == [*range(len(events))], name, "numbers of events")
-        run = states.Retold(events[0])
-        for event in events[1:-1]:
-            run.hear(event)
-        tally.holds(run.standing() == events[-1]["servers"], name, "what changed is not what there is at the end")
-        tally.holds(run.agents() == events[-1]["agents"], name, "agents by their changes")
-        for event, is_so in talks(events):
-            tally.holds(is_so, name, "gathered otherwise than replies say", event)
+    scripts = {**SCRIPTS, **played.stories()}
+    scripts |= {f"seed {seed}": scenario.Scenario(seed, 160).script() for seed in range(tally.given.seeds)}
+    for name, script in scripts.items():
         lines = traced.lines_of(script)
-        in_full(tally, name, events, lines)
-        for own, told in zip([*lines_of(events), None], [*lines_in(lines), None]):
-            tally.holds(own == told, name, "told otherwise", own, told)
+        tally.holds(written(script) == traced.told(lines), name, "told otherwise than in lines")
+        objects(tally, name, show.events_of(script.encode()), lines, rules)
+        picture(tally, name, script, lines)
+
+
+def commands(tally: Tally) -> None:
+    """What the commands print is what is looked at here, and of a fault its line; of too many requests nothing is drawn
+    unasked; and the picture in docs/ is that of its story.
+    """
+    script = next(iter(played.stories().values())).encode()
+    words, fuller = [os.path.join(played.TOP, "suites"), "trace", "--json"], json_events.Fuller()
+    wanted = b"".join(fuller.of(line.encode() + b"\n") for line in show.events_of(script)).decode()
+    tally.same(played.done(words, script)[:2], (0, wanted), "the command")
+    tally.same(played.done(words, script + b"none\n")[:2], (3, f"fault line {script.count(10) + 1}: S1\n"), "a fault")
+    tally.same(built.asked("trace", "", "--json", "x"), (2, "fault command line\n"), "words")
+    own = drawn(SCRIPTS["two"], "--agent", "1")[1]
+    every = drawn(SCRIPTS["two"])[1]
+    tally.holds(0 < len(arrows(own)) < len(arrows(every)), "--agent 1")
+    tally.same(len(arrows(drawn(SCRIPTS["two"], "--from", "5", "--to", "9")[1])), 5, "--from 5 --to 9")
+    many = script_of(3, 2, "1,1,1/2/2", job("file /a 666").rstrip(), *[job("read /a").rstrip()] * 250)
+    status, text, said = drawn(many)
+    tally.holds((status, text) == (1, "") and f"{MOST:,}" in said and "--anyway" in said, "above 2,000", said)
+    is_same = text_of("docs", "revocation.svg") == drawn(played.stories()["revocation.script"])[1]
+    tally.holds(is_same, "the picture in docs/ is another one: ./suites draw makes it anew")
+    folders = {9: {"f": 17, "g": 25}, 17: {"h": 33}, 0: {"a": 1, "d": 9}}
+    events = [{"request": {"parts": [{"suite": suite, "names": names}]}} for suite, names in folders.items()]
+    tally.same(paths(events), {0: "/", 1: "/a", 9: "/d", 17: "/d/f", 25: "/d/g", 33: "/d/f/h"}, "paths")
 
 
 if __name__ == "__main__":
-    played.plays(__doc__, "looked at", every_script, typed, most=20, width=600)
+    played.plays(__doc__, "looked at", every_script, commands, program=None, most=20, width=600, seeds=12)

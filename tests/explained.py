@@ -4,10 +4,10 @@
 Holds docs/FAULTS.md, and what `./suites explain` says, against the program and the sources. PROGRAM is `./suites`, if
 none is named. All examples of the page are played: the last line that is printed has to be the one that is shown, and
 of it `explain` has to say what the page has in brackets, of a fault with its script. Of each fault it has to find
-something, and nothing where another code is told. Where `./suites` finds a fault on a terminal, the command that it
-names has to show it. Each command line that the page shows has to end with status 0. Each code that the sources
-print, each word of a reply, each word of a line of `trace`, and each line that rows print, has to stand on the page;
-each limit that the page or the tools name has to be the one of the sources. Status 1 where something differs.
+something, and nothing where another code is told. Each command line that the page shows has to end with status 0. Each
+code that the sources print, each word of a reply, each word of a line of `trace`, and each line that rows print, has to
+stand on the page; each limit that the page or the tools name has to be the one of the sources. Status 1 where something
+differs.
 """
 import functools
 import glob
@@ -21,10 +21,8 @@ import scripting
 from played import Tally
 
 from common import built, forms, text_of
-from compare import scenario
-from explain import explain, play_lines, reasons, whys
+from explain import explain, reasons, whys
 from explore import queries
-from front import remarks
 from votes import reading
 
 TOP = played.TOP
@@ -71,18 +69,12 @@ LIMITS: tuple[tuple[str, str, list[tuple[str, str]], str | int | None], ...] = (
     ("suite_script/src/votes.rt", "MAX_VOTES", [], reading.MOST_VOTES),
     ("acl_text/src/caller.rt", "MAX_NUMBERS", [], whys.MAX_NUMBERS),
 )
-# A file, the command that reads it, its text, and what is to be told of its fault.
-ON_TERMINAL = (
-    ("my script", "play", "servers 3\nagents 0\n", "0 is below 1"),
-    ("list", "acl", "u:rw,g::r,o::-\n", "A colon is missing"),
-)
 # What is to be said, and what has been mended, by the names of files that stand there.
 SAID = os.path.join("tests", "explained.txt")
 MENDED = {
     "mended-script": scripting.header() + "begin 0 1000 100 0 file /a 644\nrun 1\n",
     "mended-list": "u::rw,g::r,o::-\n",
 }
-SEEDS = 6
 NOT_FOUND = "Was it changed since?"
 WORDS = ("", "one", "two", "three", "four", "five", "six", "seven", "eight", "nine")
 
@@ -145,71 +137,6 @@ def play_examples(tally: Tally) -> None:
         tally.fails(not about[code] and f"explain says nothing of {code} where it is printed")
 
 
-def told_on_terminal() -> typing.Iterator[str]:
-    """What differs where a fault is found on a terminal: the command that `./suites` names has to show it; of a script
-    of `explore` it has to be told so.
-    """
-
-    def on_terminal(command: str, path: str, folder: str) -> str:
-        with open(path, "rb") as file:
-            return played.on_terminal([os.path.join(TOP, "suites"), command], stdin=file, cwd=folder).text
-
-    for command in ("play", "trace", "draw", "show"):
-        said = on_terminal(command, os.path.join(TOP, EXPLORED), TOP)
-        if f"explore --way 1 < {EXPLORED}" not in said.replace("'", ""):
-            yield f"{command} says of {EXPLORED}: {said}"
-    with tempfile.TemporaryDirectory(prefix="suites-") as folder:
-        for name, command, text, told in ON_TERMINAL:
-            said = on_terminal(command, played.put(os.path.join(folder, name), text), folder)
-            found = re.search(r"\./suites (explain 'fault .*) shows it", said)
-            shown = found and played.done(["sh", "-c", f"{TOP}/suites {found[1]}"], cwd=folder).out
-            if not shown or told not in shown:
-                yield f"on a terminal {command} < '{name}' says {said.strip()}, which shows {shown}"
-
-
-def denies(text: str, owner: str, group: str, uid: str, groups: list[str], wanted: str) -> str:
-    """The entry of a list that denies what is wanted, by the rules of acl(5)."""
-    items = [item.split(":") for item in text.split(",") if not item.startswith(("d:", "default:"))]
-    entries = [(kind, who, frozenset(perms) - {"-"}) for kind, who, perms in items]
-    named = next((entry for entry in entries if entry[0] in ("u", "user") and entry[1] == uid), None)
-    of_group = [entry for entry in entries if entry[0] in ("g", "group") and (entry[1] or group) in groups]
-    asked = frozenset(wanted) - {"-"}
-    if uid == owner:
-        return "user::"
-    if named:
-        return f"user:{uid}" if asked - named[2] else "mask::"
-    if of_group and all(asked - perms for _, _, perms in of_group):
-        return f"group:{of_group[0][1]}" if of_group[0][1] else "group::"
-    return "mask::" if of_group else "other::"
-
-
-def random_runs(tally: Tally) -> typing.Iterator[tuple[str, str, str, play_lines.Played]]:
-    """Random scripts: what they are called, the script, what `play` prints, and the run."""
-    for seed in range(SEEDS):
-        script = scenario.Scenario(seed, 80).script()
-        printed = built.asked("play", script, path=tally.program)[1]
-        yield f"seed {seed}", script, printed, play_lines.played(script.encode("latin1"), "the script")
-
-
-def told_of_runs(tally: Tally) -> None:
-    """What is told of lines of random scripts: each line has to be told, and a list that is told of a denial has to
-    deny it.
-    """
-    for seed, script, printed, run in random_runs(tally):
-        for line in dict.fromkeys(printed.splitlines()):
-            said = " ".join(play_lines.of_run(run, line, script, "the script"))
-            found = re.search(
-                r"Its list was then (\S+), its owner user (\d+), and its group (\d+)\. User (\d+) of groups (\S+) ",
-                said,
-            )
-            denial = re.search(r"wants (\S+) by (\S+)$", line)
-            if denial and denial[2] != "owner":
-                decider = found and denies(found[1], found[2], found[3], found[4], found[5].split(","), denial[1])
-                tally.fails(decider != denial[2] and f"{seed}: of {line} is told: {said}")
-            is_short = not said or ("undecided" in line and len(said) < 150)
-            tally.holds(not is_short, f"{seed}: of {line} is told too little: {said}")
-
-
 def told_of_lines(tally: Tally) -> None:
     """What is told of words and lines by themselves, of those of stories, and of faults of what has been mended."""
     cases = re.findall(r"^([a-z-]*) ?\| (.*)\n((?:    .*\n)+)", text_of(SAID), re.M)
@@ -222,19 +149,6 @@ def told_of_lines(tally: Tally) -> None:
             said = as_one(explain.answer([line, path] if name else [line]))
             missing = [words for words in wanted.splitlines() if words.strip() not in said]
             tally.holds(not missing, f"{name}: of {line} explain does not say {missing}: {said[:600]}")
-
-
-def silent_lines(tally: Tally) -> None:
-    """What differs between the lines that remarks.py says did nothing and those that the trace says did nothing."""
-    for seed, script, printed, run in random_runs(tally):
-        said = list(remarks.silent(remarks.lines_of(script), printed))
-        found = {int(number) for number in re.findall(r"line (\d+) did nothing", "\n".join(said))}
-        left = {
-            f"agent {agent} has a job that has not ended (line {job.number}); run {agent} ends it"
-            for agent, job in run.busy.items()
-        }
-        is_so = found == run.silent and left == {line for line in said if line.startswith("agent")}
-        tally.holds(is_so, f"{seed}: {said}, and the trace says {run.silent} {left}")
 
 
 def play_commands(tally: Tally) -> None:
@@ -324,11 +238,11 @@ def false_limits() -> typing.Iterator[str]:
 
 
 def of_sources(tally: Tally) -> None:
-    for wrong in (told_on_terminal(), untold_words(), unexplained(), untold_reasons(), false_limits()):
+    for wrong in (untold_words(), unexplained(), untold_reasons(), false_limits()):
         tally.fails(*wrong)
     tally.count += len(LIMITS)
 
 
 if __name__ == "__main__":
-    played.plays(__doc__, "examples, lines, command lines and limits", play_examples, play_commands, told_of_runs,
-                 told_of_lines, silent_lines, of_sources, program=None)  # fmt: skip
+    played.plays(__doc__, "examples, lines, command lines and limits", play_examples, play_commands,
+                 told_of_lines, of_sources, program=None)  # fmt: skip

@@ -3,8 +3,8 @@
 
 Compares what the command `explore` tells of the scripts of examples/explore and tests/explored with the ways that are
 kept in tests/explored/NAME.ways: those which another program told, that shares no line with it. Plays the script of
-each N-th way by `suites play` (all by default), which has to print just the lines of the way; and compares each answer
-that was decided there with that of the plain table, in the order of the decisions, as tools/compare does. With
+each N-th way by `suites play` (each tenth by default), which has to print just the lines of the way; and compares each
+answer that was decided there with that of the plain table, in the order of the decisions, as tools/compare does. With
 --progress it has to tell the same, and how many worlds it has looked at. No way is printed twice. Prints each that
 differs; status 1 where one does.
 """
@@ -166,4 +166,4 @@ class Explorable(scenario.Scenario):
 
 
 if __name__ == "__main__":
-    played.plays(__doc__, "ways and answers compared", compare_kept, compare_progress, compare_alike, every=1)
+    played.plays(__doc__, "ways and answers compared", compare_kept, compare_progress, compare_alike, every=10)

@@ -1,27 +1,19 @@
 #!/usr/bin/env python3
-"""tests/growth.py [--only NAME] [--seconds] [--tools] [PROGRAM]
+"""tests/growth.py [--only NAME] [PROGRAM]
 
 Looks whether some input makes a program slow: each command has inputs of several kinds, in three sizes of which each is
 twice the one before, and takes at most 2.3 times as many instructions for twice as much, as valgrind counts them. (A
-folder's names are one content that is written whole: so no input of `play` has all its names in one folder.) With
---seconds the time of a processor is told instead, of inputs that are 16 times as large, and nothing is held against it.
-With --tools two tools have the inputs, `./suites shell` and `./suites explore --ask`, of which is not counted what an
-input of one line takes, nor what a program has to do: in place of the session stands tests/granting.py, and in place of
-`explore` one that tells as many ways as its script has lines. Prints what grows more; status 1 where something does.
+folder's names are one content that is written whole: so no input of `play` has all its names in one folder.) Prints
+what grows more; status 1 where something does.
 """
-import os
 import random
-import resource
-import sys
-import tempfile
 import typing
 
 import counting
 import played
-import wrapper
 from scripting import Make, header, job, repeated
 
-MOST, TIMES = 2.3, 16
+MOST = 2.3
 # A count that is less than this is that of a program which only begins and ends.
 LEAST = 600_000
 # Inputs that grow more, as is known: a world has with it how each job ended so far.
@@ -284,28 +276,6 @@ INPUTS: tuple[Input, ...] = (
 )  # fmt: skip
 
 
-FAKE = f"{sys.executable} {os.path.join(played.TOP, 'tests', 'granting.py')} grant"
-# In place of `explore`: a way for each line of the script, in each of which two jobs end.
-EXPLORE = """#!/bin/sh
-awk '{ print "way " NR " in 1 of 9 ends\\n0.0 answered made " NR "\\n1.0 undecided U2 server 0 holder " NR }
-    END { print "all " NR " ways, 99 worlds" }'
-"""
-SHELL, TYPED = ["shell", "--session", FAKE, "--root", "0:0:777"], "as 0:0\nput /a text\n"
-TOOLS: tuple[Input, ...] = (
-    ("shell-reads", SHELL, numbered("cat /a\n", TYPED), 100),
-    ("shell-files", SHELL, numbered("put /b{} text\n", TYPED), 100),
-    ("ask-one", ["explore", "--ask", "0.0 answered made 7"], numbered("x\n"), 1000),
-    ("ask-long", ["explore", "--ask", " and ".join(["not 1.0 undecided U1"] * 30)], numbered("x\n"), 1000),
-)
-
-
-def seconds(words: list[str], text: str) -> float:
-    before = resource.getrusage(resource.RUSAGE_CHILDREN)
-    played.done(words, text)
-    after = resource.getrusage(resource.RUSAGE_CHILDREN)
-    return after.ru_utime + after.ru_stime - before.ru_utime - before.ru_stime
-
-
 def grows(tally: played.Tally, name: str, counts: list[int]) -> None:
     """Holds counts against one another; one that is too small says nothing."""
     most = max(after / before for before, after in zip(counts, counts[1:]))
@@ -313,33 +283,15 @@ def grows(tally: played.Tally, name: str, counts: list[int]) -> None:
     tally.holds(counts[0] >= LEAST and most <= KNOWN.get(name, MOST), told)
 
 
-def of_tools(tally: played.Tally, some: list[Input]) -> None:
-    with tempfile.TemporaryDirectory(prefix="suites-") as room:
-        copy = wrapper.Copy(room)
-        copy.build("explore", EXPLORE)
-        # what is built for the first time, or is looked up by its hash, is no work of the input
-        how: dict[str, typing.Any] = {"env": {**os.environ, "PYTHONHASHSEED": "0"}, "cwd": copy.top}
-        for name, words, make, size in some:
-            asked = [sys.executable, "tools", *words]
-            begins, *counts = (counting.instructions(asked, make(n * size or 1), True, **how) for n in (0, 1, 2, 4))
-            grows(tally, name, [count - begins for count in counts])
-
-
 def inputs(tally: played.Tally) -> bool | None:
-    given = tally.given
-    some = [one for one in (TOOLS if given.tools else INPUTS) if one[0].startswith(given.only)]
-    is_skipped = not given.seconds and counting.is_skipped()
-    if given.tools and not is_skipped:
-        of_tools(tally, some)
-    for name, words, make, size in some if not is_skipped and not given.tools else ():
-        asked = [tally.program, *words]
-        if given.seconds:
-            taken = [seconds(asked, make(size * times * TIMES)) for times in (1, 2, 4)]
-            print(name, *(f"{one:.2f}" for one in taken), "s", flush=True)
-        else:
+    if counting.is_skipped():
+        return True
+    for name, words, make, size in INPUTS:
+        if name.startswith(tally.given.only):
+            asked = [tally.program, *words]
             grows(tally, name, [counting.instructions(asked, make(size * times)) for times in (1, 2, 4)])
-    return is_skipped or given.seconds or None
+    return None
 
 
 if __name__ == "__main__":
-    played.plays(__doc__, "inputs", inputs, program=None, only="", seconds=False, tools=False)
+    played.plays(__doc__, "inputs", inputs, program=None, only="")

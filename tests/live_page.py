@@ -1,8 +1,8 @@
 #!/usr/bin/env python3
-"""tests/live_page.py [--shots FOLDER]
+"""tests/live_page.py
 
-Holds the page of a session (`./suites show --live`): who is answered, what lines are told, how it ends, and the same by
-hand in a headless Chromium. Prints what differs; status 1 where something does.
+Holds the page of a session (`./suites show --live`): who is answered, what lines are told, and how it ends. Prints what
+differs; status 1 where something does.
 """
 import contextlib
 import json
@@ -15,10 +15,8 @@ import tempfile
 import time
 import typing
 
-import browser
 import played
 from played import Tally
-from shown_page import SEEN
 
 from common import built, text_of, tool
 from show import show
@@ -93,21 +91,10 @@ def by_address(live: Live, line: dict[str, object]) -> dict[str, tuple[bytes, in
     page, other = f"/{live.token}/", f"/{live.token[:-1]}{'ab'[live.token[-1] == 'a']}/"
     return {
         "no token": (live.request("GET", "/"), 404), "another token": (live.request("GET", other), 404),
-        "half a token": (live.request("GET", f"/{live.token[:20]}/"), 404),
-        "the token and more": (live.request("GET", f"/{live.token}a/"), 404),
-        "the token below": (live.request("GET", f"/x{page}"), 404),
-        "a query": (live.request("GET", f"{page}?x"), 404),
         "a file": (live.request("GET", f"{page}../show.py"), 404),
         "another host": (live.request("GET", page, host=f"evil.example:{live.port}"), 403),
-        "the host by name": (live.request("GET", page, host=f"localhost:{live.port}"), 403),
-        "no port": (live.request("GET", page, host="127.0.0.1"), 403),
-        "two hosts": (live.request("GET", page, f"Host: {live.host}"), 403),
         "no host": (f"GET {page} HTTP/1.1\r\nConnection: close\r\n\r\n".encode(), 403),
-        "an old protocol": (f"GET {page} HTTP/1.0\r\n\r\n".encode(), 403),
-        "a line by the address of the page": (live.posted(line, path=page), 404),
         "a line by another token": (live.posted(line, path=f"{other}line"), 404),
-        "a line by no token": (live.posted(line, path="/line"), 404),
-        "a line got": (live.request("GET", f"{page}line"), 404),
         "another page": (live.posted(line, "Origin: http://evil.example"), 403),
         "a page without origin": (live.posted(line, "Origin: null"), 403),
     }
@@ -236,138 +223,5 @@ def ends(tally: Tally) -> None:
         tally.holds(time.monotonic() - begun < 20 and not played.is_alive(session), number.name, "the session goes on")
 
 
-class Hand:
-    """Somebody before the page."""
-
-    def __init__(self, driver: browser.Browser, live: Live) -> None:
-        self.driver, self.live = driver, live
-        driver.open(live.address)
-
-    def until(self, text: str) -> bool:
-        """Waits until something is so on the page."""
-        end = time.monotonic() + 30
-        while not self.driver.value(text):
-            if time.monotonic() > end:
-                return False
-            time.sleep(0.02)
-        return True
-
-    def click(self, selector: str, text: str) -> None:
-        """Clicks a button by its text, below an element, and waits for what comes of it."""
-        mark = "data-clicked"
-        self.driver.value(f"for (const e of document.querySelectorAll('[{mark}]')) e.removeAttribute('{mark}');"
-                          f"[...document.querySelectorAll({json.dumps(selector)} + ' button')].find((e) =>"
-                          f" e.textContent === {json.dumps(text)}).setAttribute('{mark}', '')")
-        self.driver.click(f"[{mark}]")
-        self.until("!Live.isAsked()")
-
-    def job(self, agent: int, user: str, groups: str, asks: str, how: str) -> None:
-        self.click(f"[data-agent='{agent}']", "new job")
-        for name, text in (("user", user), ("groups", groups), ("asks", asks)):
-            self.driver.type(f"#job input[name={name}]", text)
-        self.click("#job", how)
-        self.until("!Live.isAsked()")
-
-    def told(self) -> str:
-        return self.driver.value("document.getElementById('told').innerText")
-
-
-def by_hand(tally: Tally) -> bool:
-    with tempfile.TemporaryDirectory() as folder, browser.opened(tally) as driver:
-        if driver:
-            clicks(tally, driver, folder)
-    return False
-
-
-def clicks(tally: Tally, driver: browser.Browser, folder: str) -> None:
-    """What the page shows by hand is what the page of the saved script shows."""
-    with Live(*OWN) as live:
-        hand = Hand(driver, live)
-        whole = "begin, and run to its end"
-        hand.job(0, "1000", "100", "file /plan u::rw,u:2000:r,g::-,m::r,o::- ; write /plan 6869", whole)
-        tally.holds("answered made 1; wrote" in hand.told(), "a job by the form", hand.told())
-        driver.type("#line", "user lisa 2000")
-        driver.press("Enter")
-        hand.until("Page.run.names.size === 1")
-        hand.click("[data-server='0']", "crash")
-        tally.holds(not driver.value(f"{SEEN}.servers[0].up"), "a crash")
-        hand.job(1, "1000", "100", "setacl /plan u::rw,g::-,o::-", "begin")
-        before = driver.value("Page.at()")
-        for _ in range(3):
-            hand.click("[data-agent='1']", "step")
-        tally.holds(driver.value("Page.at()") == before + 6 == driver.value("Page.run.last"), "steps", before)
-        driver.press("ArrowLeft", 2)
-        tally.holds(driver.value("document.querySelectorAll('.acts button').length") == 3, "the past is not acted on")
-        driver.click("#now")
-        tally.holds(driver.value("Page.at() === Page.run.last"), "to now")
-        hand.click("[data-agent='1']", "run")
-        hand.click("[data-server='0']", "return")
-        hand.job(0, "lisa", "2000", "read /plan", whole)
-        tally.holds("denied op 1" in hand.told(), "a name of the script", hand.told())
-        types(tally, hand)
-        same_as_saved(tally, driver, live, folder)
-        if tally.given.shots:
-            driver.shot(os.path.join(tally.given.shots, "live.png"))
-        driver.open(live.address)
-        hand.until("typeof Live === 'object'")
-        same_as_saved(tally, driver, live, folder)
-        hand = Hand(driver, live)
-        os.kill(live.session(), signal.SIGKILL)
-        hand.click("[data-server='1']", "crash")
-        tally.holds("The session has ended" in hand.told(), "a session that ended", hand.told())
-        tally.holds(driver.value("document.querySelectorAll('#world .acts').length") == 0, "nothing more is clicked")
-    nobody_answers(tally, driver)
-
-
-def types(tally: Tally, hand: Hand) -> None:
-    """Lines that are typed: what bytes hold stays text, and letters that are keys of the page are typed as they are."""
-    driver = hand.driver
-    for line in ("begin 0 2000 2000 0 file /a</script><img/src=x> 644", "run 0", "</script><img/src=x>"):
-        driver.type("#line", line)
-        driver.press("Enter")
-        hand.until("document.getElementById('line').value === ''"
-                   " || document.getElementById('told').className === 'bad'")
-    tally.holds("fault line" in hand.told() and driver.value("document.images.length") == 0, "a fault", hand.told())
-    driver.type("#line", "")
-    for letter in "pbn":
-        driver.ask("Input.dispatchKeyEvent", {"type": "keyDown", "text": letter, "key": letter})
-    tally.holds(driver.value("document.getElementById('line').value") == "pbn", "letters are typed")
-
-
-def nobody_answers(tally: Tally, driver: browser.Browser) -> None:
-    with Live(*OWN) as live:
-        hand = Hand(driver, live)
-        live.child.send_signal(signal.SIGINT)
-        live.child.wait(60)
-        hand.click("[data-server='1']", "crash")
-        tally.holds("Nobody answers" in hand.told(), "a program that ended", hand.told())
-        # the browser tells of the request that nobody answered
-        driver.faults[:] = [one for one in driver.faults if "ERR_CONNECTION" not in one]
-
-
-def same_as_saved(tally: Tally, driver: browser.Browser, live: Live, folder: str) -> None:
-    """The page shows what the page of the saved script shows, at each moment."""
-    text = "".join(f"{line}\n" for line in live.script()).encode()
-    path = played.put(os.path.join(folder, "saved.html"), show.page_of(text, show.Shown(show.events_of(text))))
-    moments = range(0, driver.value("Page.run.last") + 1, 5)
-    ours = [driver.value(f"(Page.go({place}), {SEEN})") for place in moments]
-    rows = driver.value("JSON.stringify(Page.run.rows)")
-    script = driver.value("document.getElementById('script').innerText")
-    driver.value("Page.go(Page.run.last)")
-    other = driver.ask("Target.createTarget", {"url": "about:blank"})["targetId"]
-    attached = driver.ask("Target.attachToTarget", {"targetId": other, "flatten": True})
-    before, driver.session = driver.session, attached["sessionId"]
-    driver.open(path)
-    theirs = [driver.value(f"(Page.go({place}), {SEEN})") for place in moments]
-    for one in theirs:
-        one["last"] -= 1
-    tally.holds(ours == theirs, "moments", [pair for pair in zip(ours, theirs) if pair[0] != pair[1]][:1])
-    tally.holds(driver.value("JSON.stringify(Page.run.rows)") == rows, "rows")
-    driver.value("Page.go(0)")
-    tally.holds(len(driver.value("document.getElementById('script').innerText")) == len(script), "the script")
-    driver.session = before
-    driver.ask("Target.closeTarget", {"targetId": other})
-
-
 if __name__ == "__main__":
-    played.plays(__doc__, "looked at", asks, tells, ends, by_hand, most=20, width=600, shots="")
+    played.plays(__doc__, "looked at", asks, tells, ends, most=20, width=600)

@@ -5,16 +5,14 @@ import contextlib
 import fcntl
 import os
 import shutil
-import stat
 import subprocess
 import tempfile
-import threading
 from typing import Callable, Iterator
 
 import kernel_trees as trees
 import played  # noqa: F401
-from asked_may import accounts, creates, deletes, forget, may, named_in, outcome, sentences
-from kernel_trees import DENIED, GRANTED, UNJUDGED, UNREAD, User, tried as tried_by
+from asked_may import accounts, creates, deletes, forget, may, named_in, sentences
+from kernel_trees import DENIED, GRANTED, UNJUDGED, User, tried as tried_by
 from may_changes import Count, powers
 
 from may import linux
@@ -98,36 +96,6 @@ def if_so(is_so: bool) -> str:
     return GRANTED if is_so else DENIED
 
 
-# ---- words
-
-
-def words_behind_dashes(room: Room) -> Case:
-    """A file may have the name of an option."""
-    here = os.getcwd()
-    os.chdir(room.top)
-    try:
-        room.file("--help", 0o600)
-        for words in ([*LISA.words(), "r", "--"], ["--groups", "201", "--", "1001", "r"]):
-            told = may([*words, "--help"])
-            yield f"{words} --help", (told.status, outcome(told.lines[-1])), (1, DENIED)
-        yield "--who -- --help", may(["--who", "r", "--", "--help"]).status, 0
-        yield "a second --", may([*LISA.words(), "r", "--", "--"]).status, 3
-        yield "options behind words", may([*LISA.words(), "r", "-v", "--", "--help"]).status, 1
-    finally:
-        os.chdir(here)
-
-
-def numbers(room: Room) -> Case:
-    """Numbers that are none of a user or a group are bad words."""
-    path = room.file("f")
-    for bad in ("9" * 5000, "4294967295", "4294967296", "-1"):
-        for words in (["--groups", "1", "--", bad, "r", path], [f"--groups={bad}", "--", "1", "r", path],
-                      [f"--with=u:{bad}:r", "--", path], [f"--without=g:{bad}", "--", path]):
-            yield f"{bad[:12]} in {words[0][:12]}", may(words).status, 2
-    yield "many noughts", may(["--groups", "0" * 5000 + "7", "0" * 5000 + "5", "r", path]).status, 0
-    yield "the greatest", may(["--groups", "4294967294", "4294967294", "r", path]).status, 0
-
-
 # ---- walks
 
 
@@ -141,31 +109,6 @@ def planted(room: Room) -> Case:
     yield "all are told", under("x", room.top)[1][-1], room.path("z")
     for path in map(room.path, ("a", "b", os.fsdecode(b"c\xff"), "p", "z")):
         yield f"{path!r}", *both(LISA, "x", path)
-
-
-def flips(room: Room) -> Case:
-    """A name that is now a file and now a pipe is not waited for."""
-    path, over = room.path("f"), threading.Event()
-
-    def flip() -> None:
-        while not over.is_set():
-            for is_pipe in (True, False):
-                with contextlib.suppress(OSError):
-                    os.mknod(path + ".new", stat.S_IFIFO if is_pipe else stat.S_IFREG)
-                    os.chmod(path + ".new", 0o755)
-                    os.rename(path + ".new", path)
-
-    thread = threading.Thread(target=flip)
-    thread.start()
-    try:
-        for _ in range(50):
-            told = under("x", room.top)
-            if told[0] not in (0, 3):
-                yield "a walk", told, "ends"
-        yield "walks end", True, True
-    finally:
-        over.set()
-        thread.join()
 
 
 def under_links(room: Room) -> Case:
@@ -282,15 +225,6 @@ def mount_points(room: Room) -> Case:
     room.mount(room.path("a/m"), "-t", "tmpfs", "none")
     for name in ("a/m", "b/m", "a/n", "b/n"):
         yield f"delete {name}", *deletes(LISA, room.path(name))[:2]
-
-
-def kernel_folders(room: Room) -> Case:
-    """Which names are made in /proc, /dev/pts and /sys is not judged."""
-    for path in ("/proc/new", "/dev/pts/new", "/sys/new"):
-        for verb in ("create", "delete"):
-            yield f"root {verb} {path}", sentences(ROOT, verb, [path])[0][0] in (UNJUDGED, UNREAD), True
-    with accounts([ROOT]):
-        yield "who create /proc/new", may(["--who", "create", "/proc/new"]).status, 3
 
 
 # ---- links and slashes
@@ -420,18 +354,6 @@ def no_harm(room: Room) -> Case:
     yield "nothing is advised", any("setfacl" in one for one in found), False
 
 
-def more_findings(room: Room) -> Case:
-    """All may write a folder that is not sticky, an entry of the owner, a group with less, owners without accounts."""
-    room.folder("w", 0o777), room.folder("t", 0o1777), room.file("g", 0o604), room.file("o", 0o640)
-    os.chown(room.path("o"), 1001, 4242)
-    room.entries("o", "u:1001:rw")
-    told = room.lint([LISA, BOB])
-    for name, part in (("w", "not sticky"), ("g", "its group has less than all others"), ("o", "is of the owner"),
-                       ("o", "its owner 1001 has no account"), ("o", "its group 4242 has no entry")):
-        yield f"{name}: {part}", any(one.startswith(f"{room.path(name)}: ") and part in one for one in told), True
-    yield "a sticky one is well", any(one.startswith(f"{room.path('t')}: ") for one in told), False
-
-
 # ---- who makes and takes away
 
 
@@ -451,11 +373,10 @@ def who_names(room: Room) -> Case:
 
 
 CASES: tuple[Callable[[Room], Case], ...] = (
-    words_behind_dashes, numbers, planted, flips, under_links, first_lines, chains, scripts_everywhere, odd_points,
-    mount_points, kernel_folders, sticky_links, slashes, growing_paths, snapshots, advice, no_harm, more_findings,
-    who_names,
+    planted, under_links, first_lines, chains, scripts_everywhere, odd_points, mount_points, sticky_links, slashes,
+    growing_paths, snapshots, advice, no_harm, who_names,
 )  # fmt: skip
-NEED_SETFACL = (advice, no_harm, more_findings)
+NEED_SETFACL = (advice, no_harm)
 
 
 def tried(kind: str, place: str) -> Count:

@@ -2,9 +2,8 @@
 """tests/mount-faults.py [--rounds N]
 
 What a mount bears: adapter and session killed (SIGKILL) at random moments under load, N times, and mounted again from
-the journal, where all has to be that `close` answered; 64 processes at once; 4,096 files; a full server, and the
-compaction that makes room; and the memory of the adapter, which must not grow with files read. Prints figures, and what
-differs; status 1 where something does.
+the journal, where all has to be that `close` answered; 4,096 files; and a full server, and the compaction that makes
+room. Prints figures, and what differs; status 1 where something does.
 """
 import errno
 import os
@@ -16,10 +15,8 @@ import mounted
 import played
 from mounted import Mounted
 
-# A worker's files, and how many workers there are under load and at once.
-FILES, LOADED, MANY = 8, 6, 64
-# The adapter may take so much more memory after many files were read, in bytes.
-MORE = 4 << 20
+# A worker's files, and how many workers there are under load.
+FILES, LOADED = 8, 6
 
 
 def work(top: str, number: int, log: str, seconds: float) -> None:
@@ -92,26 +89,6 @@ def is_restored(tally: played.Tally) -> None:
         print(f"{rounds} kills under load: {seen} files looked at, journal {os.path.getsize(mount.journal)} bytes")
 
 
-def bears_many(tally: played.Tally) -> None:
-    """64 processes at once, with all servers up and with one that crashes and returns."""
-    with Mounted("--root", "0:0:777") as mount:
-        begun = time.monotonic()
-        children = forked(mount.top, mount.room, MANY, 5)
-        for turn in range(20):
-            mount.control(f"{'return' if turn % 2 else 'crash'} {turn // 2 % 3}")
-            time.sleep(0.1)
-        status = [os.waitstatus_to_exitcode(os.waitpid(child, 0)[1]) for child in children]
-        seconds = time.monotonic() - begun
-        tally.holds(not any(status), "of 64 processes some were not answered", status)
-        written = 0
-        for worker in range(MANY):
-            known, _ = answered(os.path.join(mount.room, f"log{worker}"))
-            written += played.text_of(os.path.join(mount.room, f"log{worker}")).count("done ")
-            for name, text in known.items():
-                tally.holds(played.text_of(os.path.join(mount.top, name)) == text, f"{name} is another")
-        print(f"{MANY} processes: {written} files written in {seconds:.0f} s, {written / seconds:.0f} a second")
-
-
 def filled(mount: Mounted) -> tuple[int, str]:
     """Makes files, a thousand in a folder, until one cannot be made: how many there are, and the error."""
     begun, made, folder = time.monotonic(), 0, ""
@@ -176,28 +153,6 @@ def played_bytes(mount: Mounted, folder: str, names: list[str]) -> bool:
     return bool(names)
 
 
-def memory_of(process: int) -> int:
-    with open(f"/proc/{process}/status", encoding="ascii") as file:
-        return next(int(line.split()[1]) * 1024 for line in file if line.startswith("VmRSS:"))
-
-
-def keeps_its_memory(tally: played.Tally) -> None:
-    """Reads many files of 64 KiB again and again: the adapter takes no more memory for it."""
-    with Mounted("--root", "0:0:777") as mount:
-        for number in range(64):
-            played.put(os.path.join(mount.top, f"f{number}"), bytes([number]) * 65_536)
-        told = []
-        for turn in range(9):
-            for number in range(64):
-                with open(os.path.join(mount.top, f"f{number}"), "rb") as file:
-                    if file.read() != bytes([number]) * 65_536:
-                        tally.holds(False, f"f{number} has other bytes")
-            played.put("/proc/sys/vm/drop_caches", "2")
-            told.append(memory_of(mount.child.pid))
-        print(f"memory of the adapter while 36 MiB are read: {told[0] >> 10} KiB, and at the end {told[-1] >> 10} KiB")
-        tally.holds(told[-1] - told[0] < MORE, f"the adapter's memory grows with files read: {told}")
-
-
 if __name__ == "__main__":
-    parts = (mounted.skipped, keeps_its_memory, is_full, bears_many, is_restored)
+    parts = (mounted.skipped, is_full, is_restored)
     played.plays(__doc__, "things that a mount bears", *parts, rounds=10, most=20)

@@ -2,9 +2,8 @@
 """tests/mount.py
 
 Mounts sessions and looks at what the mount itself does: that it decides nothing (over a session that grants all,
-everybody may all; over one that denies all, nobody may anything), umask and default lists, what an open file sees, each
-error of its table, lines of control and who may give them, that nothing is recorded as denied of a call that is
-answered, and how it ends. Prints what differs; status 1 where something does.
+everybody may all; over one that denies all, nobody may anything), what an open file sees, each error of its table,
+lines of control and who may give them, and how it ends. Prints what differs; status 1 where something does.
 """
 import errno
 import os
@@ -108,27 +107,6 @@ def decides_nothing(tally: played.Tally) -> None:
                 told = as_user(STRANGER, does)
                 tally.holds(told == "EACCES", f"{name} is answered {told or 'well'}, which the session denies")
         tally.holds(error_of(lambda: os.stat(f"{mount.top}/f")) == "EACCES", "stat below what is denied")
-
-
-def minds_umask(tally: played.Tally) -> None:
-    """The umask cuts a mode, and a default list takes its place."""
-    def mode(path: str) -> int:
-        return os.stat(path).st_mode & 0o777
-
-    with Mounted("--root", "0:0:777") as mount:
-        top = mount.top
-        as_user(STRANGER, lambda: put(f"{top}/a", b"", mode=0o666), 0o027)
-        as_user(STRANGER, lambda: os.mkdir(f"{top}/d", 0o777), 0o077)
-        tally.holds((mode(f"{top}/a"), mode(f"{top}/d")) == (0o640, 0o700), "the umask does not cut a mode")
-        value = packed([(1, 7, NOTHING), (2, 7, 1000), (4, 5, NOTHING), (16, 7, NOTHING), (32, 4, NOTHING)])
-        as_user(STRANGER, lambda: os.setxattr(f"{top}/d", DEFAULT, value))
-        as_user(STRANGER, lambda: put(f"{top}/d/a", b"x", mode=0o666), 0o077)
-        as_user(STRANGER, lambda: os.mkdir(f"{top}/d/b", 0o777), 0o077)
-        wanted = packed([(1, 6, NOTHING), (2, 7, 1000), (4, 5, NOTHING), (16, 6, NOTHING), (32, 4, NOTHING)])
-        told = as_user(STRANGER, lambda: let(os.getxattr(f"{top}/d/a", ACCESS) == wanted))
-        tally.holds(told == "", "a default list is not that of a new file")
-        told = as_user(STRANGER, lambda: let(os.getxattr(f"{top}/d/b", DEFAULT) == value))
-        tally.holds(told == "", "a default list is not that of a new folder")
 
 
 def sees_what_is_written(tally: played.Tally) -> None:
@@ -240,50 +218,15 @@ def is_controlled(tally: played.Tally) -> None:
     with Mounted("--root", "0:0:777") as mount:
         top = mount.top
         put(f"{top}/a", b"hi")
-        put(f"{top}/b", b"", mode=0o600)
-        tally.holds("size 2" in mount.control("row /a"), "row is not told")
-        tally.holds(mount.control("crash 1", "row /b").startswith("row /b file"), "two lines are not told")
-        told = mount.control("copies /a", "locks", "room").splitlines()
-        words = [line.split(" ", 1)[0] for line in told]
-        is_told = words == ["copies"] * 3 + ["locks"] * 3 + ["room"] * 3 and " server 1 down " in told[1]
-        tally.holds(is_told, f"servers are not told: {told}")
-        tally.holds(mount.control("nonsense").startswith("fault line "), "a faulty line is not told")
-        tally.holds(mount.control("sweep 0 0").split(" ")[2:3] == ["swept"], "a sweep of agent 0 is not carried out")
+        told = mount.control("row /a", "nonsense", "crash 1", "locks").splitlines()
+        tally.holds("size 2" in told[0] and told[1].startswith("fault line "), "lines are told", told)
         tally.holds(got(f"{top}/a") == b"hi", "with one server down a file is not read")
         name = f"{top}/.suites:control"
         tally.holds(as_user(STRANGER, lambda: os.open(name, os.O_RDWR)) == "EINVAL", "a stranger gives lines")
-        tally.holds(as_user(STRANGER, lambda: os.stat(name)) == "EINVAL", "a stranger sees where lines are given")
-        tally.holds(".suites:control" not in os.listdir(top), "a listing tells where lines are given")
         mount.control("crash 0")
         tally.holds(error_of(lambda: got(f"{top}/a")) == "EIO", "with two servers down it is no EIO")
         mount.control("return 0", "return 1")
         tally.holds(got(f"{top}/a") == b"hi", "with all servers up again a file is not read")
-        mount.control("begin 1 0 0 0 write /a 00", "step 1 6")
-        tally.holds(error_of(lambda: put(f"{top}/a", b"x", os.O_TRUNC)) == "EIO", "another's lock is no EIO")
-        mount.control("run 1")
-        put(f"{top}/a", b"x")
-        tally.holds(got(f"{top}/a") == b"x", "a lock that is gone is in the way")
-
-
-def records_denials(tally: played.Tally) -> None:
-    """A server records what was denied, and nothing of a call that is answered."""
-    with Mounted("--root", "0:0:711") as mount:
-        top = mount.top
-        put(f"{top}/f", b"", mode=0o600)
-        os.mkdir(f"{top}/d", 0o700)
-        put(f"{top}/d/f", b"", mode=0o600)
-
-        def denials() -> int:
-            return sum(int(mount.control(f"audit {server}").split()[2]) for server in range(3))
-
-        for name in ("f", "d"):
-            tally.holds(as_user(STRANGER, lambda: os.stat(f"{top}/{name}")) == "", f"{name} is not told of")
-        tally.holds(as_user(STRANGER, lambda: os.stat(f"{top}/no")) == "ENOENT", "what is not there")
-        tally.holds(denials() == 0, f"what is answered is recorded as denied: {denials()}")
-        for does in (lambda: os.stat(f"{top}/d/f"), lambda: got(f"{top}/f")):
-            before = denials()
-            tally.holds(as_user(STRANGER, does) == "EACCES", "what is denied is answered")
-            tally.holds(denials() > before, "what is denied is not recorded")
 
 
 def ends(tally: played.Tally) -> None:
@@ -317,10 +260,8 @@ def ends(tally: played.Tally) -> None:
         mount.begin()
         tally.holds(os.listdir(mount.top) == [], "over a killed mount none is mounted")
         mount.end()
-        done = subprocess.run([*mounted.DOOR, *mount.session, mount.top], stdout=subprocess.PIPE, timeout=60)
-        tally.holds(done.returncode == 0 and os.path.ismount(mount.top), "it does not go into the background")
 
 
 if __name__ == "__main__":
-    played.plays(__doc__, "answers of the mount", mounted.skipped, decides_nothing, minds_umask, sees_what_is_written,
-                 takes_rights_away, answers_errors, is_controlled, records_denials, ends)  # fmt: skip
+    played.plays(__doc__, "answers of the mount", mounted.skipped, decides_nothing, sees_what_is_written,
+                 takes_rights_away, answers_errors, is_controlled, ends)  # fmt: skip

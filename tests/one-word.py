@@ -2,7 +2,8 @@
 """tests/one-word.py [--told]
 
 One word, one meaning: a public type's name is one crate's. Status 1 where two crates have a name. Counts the records of
-definitions whose name several crates have, which may only become fewer; --told tells them.
+definitions whose name several crates have, which may only become fewer; --told tells them. And a law asks nothing of
+its caller, so that no test has to call it: a public function that does nothing has no `requires`, but for one.
 """
 import collections
 import glob
@@ -11,9 +12,11 @@ import re
 
 from played import TOP, Tally, plays
 
-from common import text_of
+from common import functions, text_of
 from pages import proved_page
 
+# The function that does nothing and asks something: `run_tests` calls it. So many others are found at least.
+ASKS, LAWS = {"law_headline promise"}, 200
 # As many names of records are those of several crates at most, and so many public types are found at least.
 MOST, FEWEST = 64, 180
 TYPE = re.compile(r"^pub (?:struct|enum|trait|type) (\w+)", re.M)
@@ -41,7 +44,25 @@ def records() -> dict[str, set[str]]:
     return found
 
 
+def laws() -> dict[str, bool]:
+    """The public functions that do nothing, each with whether it asks something of its caller."""
+    found = dict[str, bool]()
+    for crate in proved_page.crates():
+        for path in glob.glob(os.path.join(TOP, "crates", crate, "src", "**", "*.rt"), recursive=True):
+            text = text_of(path)
+            lines = text.split("\n")
+            for one in functions.functions(text):
+                whole = "".join(lines[one.first : one.last + 1]).replace(" ", "")
+                if whole.startswith("pubfn") and whole.endswith("{}"):
+                    asks = re.compile(r" *requires\b")
+                    found[f"{crate} {one.name}"] = any(map(asks.match, lines[one.first : one.last]))
+    return found
+
+
 def looks(tally: Tally) -> None:
+    of_laws = laws()
+    tally.same({name for name, asks in of_laws.items() if asks}, ASKS, "the laws that ask something")
+    tally.holds(len(of_laws) >= LAWS, f"only {len(of_laws)} laws are found")
     owners = collections.defaultdict(set)
     for crate in proved_page.crates():
         for name in types(crate):

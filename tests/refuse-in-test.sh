@@ -60,8 +60,6 @@ if [ $# -eq 2 ]; then
     refuse_each "$1" "$2"
 else
     refuse_each library_tests list_text::a_list_is_read_where_memory_was_refused
-    refuse_each library_tests table::operations_see_one_another
-    refuse_each library_tests server::requests_are_answered_with_their_stamps
     refuse_each run_tests worlds::both_sides_of_the_deciding_step
     refuse_each run_tests locks::the_replies_are_the_servers
     refuse_each run_tests runs::a_list_beside_a_sweep

@@ -7,6 +7,7 @@ and what a trace ends with (tests/standing.py). With --long it kills 200 times i
 lines instead of 200 thousand.
 """
 import contextlib
+import errno
 import os
 import random
 import resource
@@ -183,10 +184,42 @@ def fails(path: str, tally: Tally, folder: str) -> None:
                 lines = [line for line in others if line in kept.splitlines()]
                 tally.holds(kept == HEAD + text_of(lines), "all others are kept", kind, call, kept)
     name = spoken.journal(folder)
-    status, told = ran(path, ["--journal", name], text_of(STORY), library.env(SYNC=3, CUT=2))
+    status, told = ran(path, ["--journal", name], text_of(STORY), library.env(SYNC=4, CUT=2))
     tally.holds(status == 6 and told.count(b"fault journal\n") >= 1, "a journal that is not cut off", told)
     kept = played.got(name)
     tally.holds(whole.startswith(kept) and kept.count(b"\n") == 4, "it takes no line more", kept)
+
+
+def opens_badly(path: str, tally: Tally, folder: str) -> None:
+    """Each call on a journal with a torn line fails in turn: it is told, and no whole line is lost. What is done by
+    halves is done on, and what a signal breaks off may be made again.
+    """
+    library = played.Library("fail", folder)
+    if not library.is_made:
+        return
+    whole = HEAD + text_of(KEPT)
+    name = spoken.journal(folder, whole + b"begin 0")
+    right = ran(path, ["--journal", name], text_of(PROBE))
+    kept = played.got(name)
+    name = spoken.journal(folder, whole + b"begin 0")
+    tally.holds(ran(path, ["--journal", name], text_of(PROBE), library.env(SHORT=1)) == right, "by halves")
+    tally.holds(played.got(name) == kept, "what is kept by halves", played.got(name))
+    for kind in ("OPEN", "LOCK", "LOOK", "CUT", "SYNC", "APPEND"):
+        for error in (errno.EIO, errno.ENOSPC, errno.EINTR):
+            for call in range(1, 100):
+                name = spoken.journal(folder, whole + b"begin 0")
+                told = ran(path, ["--journal", name], text_of(PROBE), library.env(**{kind: call}, WITH=error))
+                got = played.got(name)
+                if not library.was_met():
+                    tally.holds(told == right and got == kept and call > 1, "no call failed", kind, call)
+                    break
+                case = kind, call, error, told, got
+                if told[1] == b"fault journal %s: failed\n" % name.encode():
+                    tally.holds(told[0] == 6 and got in (whole + b"begin 0", whole), "not opened", *case)
+                elif b"fault journal\n" in told[1]:
+                    tally.holds(told[0] == 6 and got.startswith(whole) and got.endswith(b"\n"), "not kept", *case)
+                else:
+                    tally.holds(error == errno.EINTR and told == right and got == kept, "made again", *case)
 
 
 def lacks_memory(path: str, tally: Tally, folder: str) -> None:
@@ -385,8 +418,8 @@ def sessions(tally: Tally) -> None:
     with tempfile.TemporaryDirectory(prefix="suites-") as folder:
         standing.stands(path, tally)
         for part in (
-            answers, goes_on, restores, refuses, is_full, fails, lacks_memory, is_compacted, tells_stories,
-            closes_its_end,
+            answers, goes_on, restores, refuses, is_full, fails, opens_badly, lacks_memory, is_compacted,
+            tells_stories, closes_its_end,
         ):  # fmt: skip
             part(path, tally, folder)
         is_killed(path, tally, folder, 200 if is_long else 20)

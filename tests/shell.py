@@ -1,22 +1,16 @@
 #!/usr/bin/env python3
 """tests/shell.py
 
-Plays the stories of `./suites shell` and of the mount and holds what they print against what is written here; the shell
-on a terminal (words, paths and users are completed, lines are kept, Ctrl-C and Ctrl-D, colours there alone); what
+Plays the stories of `./suites shell` and of the mount and holds what they print against what is written here; what
 setfacl makes of lists against setfacl; and scripts of `./suites import`: the tree that one makes is read again from a
 mount, and the script of that is the same. What a mount needs and is not here is told, and that part is skipped. Prints
 what differs; status 1 where something does.
 """
-import contextlib
 import os
-import pty
 import random
-import select
 import shutil
 import subprocess
-import sys
 import tempfile
-import time
 
 import mounted
 import played
@@ -61,99 +55,8 @@ MISTAKES = {
 }
 
 
-# What is typed on a terminal, and what is to be shown of it before the next is typed.
-TAB, CTRL_C, CTRL_D, UP, RED = "\t", "\x03", "\x04", "\x1b[A", "\x1b[31m"
-TYPED = (
-    ("user quirin 1001\n", "> "), (f"mkd{TAB}", "mkdir "), ("/folder 777\n", "root> "),
-    (f"put /fo{TAB}", "/folder"), ("/one hello\n", "root> "), (f"cat /folder/o{TAB}\n", "hello"),
-    (f"cat folder/o{TAB}\n", "hello"), (f"as quir{TAB}", "as quirin"), ("\n", "quirin> "),
-    (f"setfacl -m u:quir{TAB}", "u:quirin"), (f":r /folder/o{TAB}\n", f"{RED}Permission denied"),
-    ("why\n", "nobody else may do that"), ("", "quirin> "), ("rm /folder/one", "rm /folder/one"), (CTRL_C, "^C"),
-    ("", "quirin> "), ("cat /folder/one\n", "hello"), ("", "quirin> "),
-    (f"cra{TAB}1\n", "quirin> "), ("servers\n", "server 1 down"), ("cat /nothing\n", f"{RED}No such file or folder"),
-    ("", "quirin> "),
-)
-
-
-# So many seconds a terminal may take to show something, and so many before Ctrl-C is typed again.
-PATIENCE, MOMENT = 120, 5
-
-
-class Terminal:
-    """A shell on a terminal of its own."""
-
-    def __init__(self, room: str, *words: str) -> None:
-        self.shown = ""
-        self.child, self.leader = pty.fork()
-        if self.child == 0:
-            env = {**os.environ, "XDG_STATE_HOME": room, "TERM": "xterm", "INPUTRC": "/dev/null", "COLUMNS": "200"}
-            os.execve(sys.executable, tool("shell", *own_session(), *words), env)
-
-    def shows(self, text: str, seconds: float = PATIENCE) -> bool:
-        """Whether a text is shown, within so many seconds, behind what was looked for before."""
-        end = time.monotonic() + seconds
-        while text not in self.shown and time.monotonic() < end:
-            if select.select([self.leader], [], [], 1)[0]:
-                try:
-                    self.shown += os.read(self.leader, 4096).decode("utf-8", "replace")
-                except OSError:
-                    break
-        is_shown = text in self.shown
-        self.shown = self.shown.partition(text)[2] if is_shown else self.shown
-        return is_shown
-
-    def type(self, text: str) -> None:
-        os.write(self.leader, text.encode())
-
-    def answers(self, typed: str, wanted: str) -> bool:
-        """Whether a text is shown once another was typed. Ctrl-C is typed again where it comes to nothing: Python sees
-        a signal between two keys late.
-        """
-        if typed != CTRL_C:
-            self.type(typed)
-            return self.shows(wanted)
-        for _ in range(PATIENCE // MOMENT):
-            self.type(typed)
-            if self.shows(wanted, MOMENT):
-                return True
-        return False
-
-    def ended(self) -> int:
-        """The status with which it ends by itself, soon."""
-        with contextlib.suppress(OSError):
-            while select.select([self.leader], [], [], PATIENCE)[0] and os.read(self.leader, 4096):
-                pass
-        os.close(self.leader)
-        return os.waitstatus_to_exitcode(os.waitpid(self.child, 0)[1])
-
-
 def own_session() -> list[str]:
     return ["--session", mounted.SESSION] if mounted.SESSION else []
-
-
-def on_terminals(tally: played.Tally) -> None:
-    with tempfile.TemporaryDirectory(prefix="suites-") as room:
-        terminal = Terminal(room, "--root", "0:0:777")
-        tally.holds(terminal.shows("root> "), "a terminal is asked", terminal.shown)
-        for typed, wanted in TYPED:
-            tally.holds(terminal.answers(typed, wanted), repr(typed), repr(terminal.shown))
-        terminal.type(CTRL_D)
-        tally.holds(terminal.ended() == 0, "Ctrl-D ends it")
-        again = Terminal(room)
-        again.shows("root> ")
-        again.type(UP)
-        tally.holds(again.shows("cat /nothing"), "what was typed is kept", repr(again.shown))
-        again.type(UP)
-        tally.holds(again.shows("servers"), "and what was typed before", repr(again.shown))
-        # what is typed with it goes with it
-        again.answers(CTRL_C, "^C")
-        again.shows("root> ")
-        again.type("quit\n")
-        tally.holds(again.ended() == 0, "quit ends it")
-    # that its programs are checked builds is told once a day, where no terminal is
-    played.done(tool("shell", *own_session()))
-    done = played.done(tool("shell", *own_session()), "cat /no\n", env={**os.environ, "TERM": "xterm"})
-    tally.same(done[1:], ("root> cat /no\nNo such file or folder (refused F4 op 1)\n", ""), "no terminal")
 
 
 def shell(story: str, *words: str) -> list[str]:
@@ -162,6 +65,8 @@ def shell(story: str, *words: str) -> list[str]:
 
 
 def tells_stories(tally: played.Tally) -> None:
+    # that its programs are checked builds is told once a day
+    played.done(tool("shell", *own_session()))
     told = shell(played.text_of(STORY), "--root", "0:0:755")
     answers = [pair for pair in zip(told, told[1:]) if "> cat" in pair[0] or "> getfacl" in pair[0]]
     tally.holds(answers == ANSWERED, "the story of the shell", answers)
@@ -270,5 +175,5 @@ def on_mounts(tally: played.Tally) -> bool:
 
 
 if __name__ == "__main__":
-    parts = (changes_lists, on_terminals, tells_stories, on_mounts)
+    parts = (changes_lists, tells_stories, on_mounts)
     played.plays(__doc__, "answers of the shell", *parts, width=2000)

@@ -2,8 +2,8 @@
 """tests/statuses.py
 
 Looks with which status the commands `trace` and `forms` end (0 done, 2 other words, 3 a fault, 6 an input above 16 MiB
-or a write that fails) and how what they print begins; and `judge` for a history of 128 MiB, of a byte more, and for one
-without an end. Prints each end that is another; status 1 where one is.
+or a write that fails) and how what they print begins; so do others for 16 MiB and a byte more; and `judge` for a
+history of 128 MiB, of a byte more, and for one without an end. Prints each end that is another; status 1 where one is.
 (tests/checked-build.py, tests/may.py, tests/explored.py, tests/judged.py and tests/session.py look at the others.)
 """
 import os
@@ -14,6 +14,7 @@ from scripting import header, job
 
 RUN = (header(1, 1, "1/1/1", "1 1 777") + job("list /", who="1 1")).encode()
 LONG = b"#" * (16 * 1024 * 1024 + 1)
+WHOLE = LONG[1:]
 MOST, HEAD = 128 * 1024 * 1024, b"root 1 1 755\n#"
 # A command, its words, its input, its status, and what its output begins with.
 ENDS: tuple[tuple[str, str, bytes, int, str], ...] = (
@@ -27,6 +28,12 @@ ENDS: tuple[tuple[str, str, bytes, int, str], ...] = (
     ("forms", "play 8 9", b"", 2, "fault command line\n"),
     ("forms", "x", b"", 2, "fault command line\n"),
     ("forms", "play 1", LONG, 6, ""),
+    ("table", "", LONG, 6, ""),
+    ("table", "", WHOLE, 3, "fault line 2: S2\n"),
+    ("play", "", LONG, 6, ""),
+    ("play", "", WHOLE, 3, "fault line 2: S2\n"),
+    ("acl", "", LONG, 6, ""),
+    ("acl", "", WHOLE, 3, "fault A1\n"),
 )
 
 

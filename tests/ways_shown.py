@@ -1,11 +1,10 @@
 #!/usr/bin/env python3
-"""tests/ways_shown.py [--shots FOLDER]
+"""tests/ways_shown.py
 
 Holds the page of all ways (`./suites explore --page`): each way that the program tells stands on it, on a branch whose
 lines are those of the way; in a headless Chromium a click on it shows a run that ends so, the one of `--way K`; a
-question is answered as by `--ask`, and marks just the ways in which it is so; the order of decisions is that of the
-run; and what does not fit on a page is told with what is to be typed. Prints what differs; status 1 where something
-does. Without Chromium the page alone is looked at.
+question is answered as by `--ask`, and marks just the ways in which it is so; and the order of decisions is that of
+the run. Prints what differs; status 1 where something does. Without Chromium the page alone is looked at.
 """
 import json
 import os
@@ -20,7 +19,7 @@ from shown_page import SEEN
 
 from common import built, tool
 from explore import queries
-from show import show, ways_page
+from show import show
 
 EXPLORE = tool("explore")
 # Stories with their options, and questions.
@@ -129,28 +128,7 @@ def pages(tally: Tally, driver: browser.Browser | None, folder: str) -> None:
         if driver:
             driver.open(played.put(os.path.join(folder, f"{name}.html"), page))
             clicked(tally, driver, name, told, len(wanted))
-            if tally.given.shots:
-                driver.shot(os.path.join(tally.given.shots, f"ways-{name}.png"))
-
-
-def large(tally: Tally) -> None:
-    """Of more ways than a page has runs of, the others are told with what is typed."""
-    script = played.stories("explore")["revocation.script"].encode()
-    told, most = explored([], script), ways_page.MOST_RUNS
-
-    def leads(way: int) -> bytes:
-        return explored(["--way", str(way)], script).encode()
-
-    ways_page.MOST_RUNS = 2
-    data = data_in(ways_page.page_of(told, [], leads, lambda way: f"see {way}"))["ways"]["ways"]
-    tally.holds(["events" in one for one in data] == [True, True, False, False, False, False], "runs on a page")
-    tally.holds([one.get("command") for one in data[2:]] == [f"see {way}" for way in (3, 4, 5, 6)], "what is typed")
-    ways_page.MOST_RUNS = most
-    for words in (["--page", "--way", "1"], ["--page", "--ask", "7.0 answered"]):
-        tally.same(played.done([*EXPLORE, *words], script)[:2], (2, ""), words)
-    done = played.done([*EXPLORE, "--page"], script + b"nonsense\n")
-    tally.same((done.status, done.out[:6]), (3, "fault "), "a fault")
 
 
 if __name__ == "__main__":
-    played.plays(__doc__, "looked at", all_pages, large, most=20, width=600, shots="")
+    played.plays(__doc__, "looked at", all_pages, most=20, width=600)

@@ -9,7 +9,6 @@ import os
 import re
 import resource
 import shutil
-import subprocess
 import sys
 import tempfile
 import typing
@@ -62,26 +61,12 @@ SIX = {
     "< big": "the input is above 16 MiB: it has 16,777,217 bytes", "> /dev/full": "a write failed: the disk is full",
     "< /dev/zero": "the input is above 16 MiB", ">&-": "a write failed: standard output is closed",
 }
-# In place of `explore`: reads its script, and where it is asked to, tells on standard error how many worlds it has
-# looked at. It says something else there in between, and last of all half a line.
-EXPLORED, HEARD = "all 0 ways, 70000 worlds\n", ("a message", "the last one")
-EXPLORE = f"""#!/bin/sh
-cat > /dev/null
-[ "$1" = --progress ] && for number in 0 1 2 3 4 5 6; do
-    echo "${{number}}0000 worlds" >&2
-    [ $number = 4 ] && echo '{HEARD[0]}' >&2
-    sleep 0.5
-done
-[ $# = 0 ] || printf '{HEARD[1]}' >&2
-printf '{EXPLORED}'
-"""
 # A script, typed in pieces, and what a terminal is told of it; the program prints no job that ended.
 TYPED = (b"hi\nbegin 0 1 1 0 list /\nsweep 0 1\nstep 1 3\nrun 0\n", b"\x04")
 SILENT = ("line 3 did nothing: agent 0 has a job (line 2)", "line 4 did nothing: agent 1 has no job",
           "agent 0 has a job that has not ended (line 2); run 0 ends it")
 KEEP = "from front import choose, sources; choose.keep_record('{}', sources.Sources(), sources.Kit())"
 GIT = "git init -q && git add suites && git -c user.name=a -c user.email=a commit -qm a && git rev-parse --short=12 @"
-WORLDS = re.compile(r"suites: explore is at work: [1-6]0,000 worlds, \d{1,2},\d00 a second, \d+ s")
 
 
 class Copy:
@@ -205,17 +190,6 @@ def answers_at_once(copy: Copy) -> None:
     copy.holds(copy.at_once("--is-fresh").status == 1, "a program is fresh that is not there")
 
 
-def says_once_a_day(copy: Copy) -> None:
-    """A sentence that is said once a day is not said a second time."""
-    code = (
-        "import os\nfrom common import console\nfor _ in 'ab': console.say_once_a_day('told', 'hello')\n"
-        "os.utime('told', (0, 0)); console.say_once_a_day('told', 'again')"
-    )
-    with tempfile.TemporaryDirectory(prefix="suites-") as room:
-        said = copy.python(code, cwd=room).err
-    copy.holds(said == "suites: hello\nsuites: again\n", f"once a day is said: {said}")
-
-
 def tells_all_commands(copy: Copy) -> None:
     """Help tells each word that `./suites` knows, and so does README.md."""
     known = " ".join(re.findall(r"\b(?:own|tools|options)='([^']*)'", text_of(copy.top, "suites"))).split()
@@ -263,22 +237,6 @@ def runs_a_build(copy: Copy) -> None:
     copy.holds(copy.answer("play", "foo")[:2] == (2, FAULT), "play foo with a build")
 
 
-def answers_first(copy: Copy) -> None:
-    """With the small build alone: it answers what `./suites` starts itself, and no tool."""
-    out = os.path.join(copy.top, "out")
-    copy.build("suites", PROGRAM)
-    os.rename(os.path.join(out, "suites"), os.path.join(out, "first_answer"))
-    os.unlink(os.path.join(out, "choice.sh"))
-    copy.python(KEEP.format("first"))
-    for _ in range(2):
-        told = copy.answer("serve", "--agents", "5")
-        is_so = told.status == 5 and told.err.startswith("suites: checked build")
-        copy.holds(is_so, f"the small build answers {told}")
-    version, choice = copy.answer("--version").out, copy.python("from common import built; print(built.kept_choice())")
-    copy.holds(version.endswith("\nbuild first, out/first_answer\n"), f"of the small build --version tells {version}")
-    copy.holds(choice.out == "None\n", f"a tool would ask {choice}")
-
-
 def tells_a_terminal(copy: Copy) -> None:
     """What a terminal is told besides, with a build."""
     reading = "suites: reading from the terminal"
@@ -288,31 +246,13 @@ def tells_a_terminal(copy: Copy) -> None:
     copy.holds("No such process" not in shown, f"a terminal is told of a process: {shown}")
     shown = copy.on_terminal("acl", b"hi\n", b"\x04", both=True).text
     copy.holds(shown.endswith("read hi\n"), f"a terminal is told behind the answer: {shown}")
-    # a program that ends at once takes more than a second where the machine has much else to do
-    tries = (copy.on_terminal("acl quick", both=True).text for _ in range(5))
-    shown = next((shown for shown in tries if reading not in shown), reading)
-    copy.holds("fault word 1" in shown and "./suites explain" in shown, f"a terminal that is not read is told: {shown}")
     for agents, told in (("3", "./suites explain"), ("6", "above 16 MiB")):
         shown = copy.on_terminal(f"serve --agents {agents}", both=True).text
         copy.holds(told in shown, f"of status {agents} a terminal is told {shown}")
 
 
-def tells_worlds(copy: Copy) -> None:
-    """How far `explore` is, a terminal is told alone; it is told all else that the program says on standard error."""
-    copy.build("explore", EXPLORE)
-    copy.answer("explore")
-    copy.holds(copy.answer("explore") == (0, EXPLORED, ""), "explore says more where no terminal is told")
-    shown = copy.on_terminal("explore", stdin=subprocess.DEVNULL, both=True).text
-    copy.holds(len(WORLDS.findall(shown)) > 1, f"a terminal is told no worlds: {shown}")
-    is_heard = all(f"\r\033[K{text}\n" in shown for text in HEARD)
-    copy.holds(is_heard, f"a terminal is not told all that the program says: {shown}")
-    copy.holds(" worlds\n" not in shown.removesuffix(EXPLORED), f"a terminal is told bare numbers: {shown}")
-    copy.holds(shown.endswith(f"\r\033[K{EXPLORED}"), f"a terminal is told more at the end: {shown}")
-
-
 if __name__ == "__main__":
-    on_terminals = (tells_a_terminal, tells_worlds) if os.path.exists("/dev/ptmx") else ()
+    on_terminals = (tells_a_terminal,) if os.path.exists("/dev/ptmx") else ()
     played.plays(__doc__, "answers", on_a_copy(
-        plays_rows, answers_at_once, says_once_a_day, tells_all_commands, tells_version, runs_a_build, *on_terminals,
-        answers_first,
+        plays_rows, answers_at_once, tells_all_commands, tells_version, runs_a_build, *on_terminals,
     ))  # fmt: skip

@@ -174,7 +174,8 @@ def explained(text: str) -> str:
     inner = tool_lines.within(text)
     if inner:
         return f"A sentence of `./suites shell`, with the session's own words behind it.\n\n{explained(inner)}"
-    of_tool = tool_lines.of_tools(as_printed.rstrip()) if kind_of(text) not in (*OF_WAYS, OF_TRACE) else None
+    is_of_tool = not word and kind_of(text) not in (*OF_WAYS, OF_TRACE)
+    of_tool = tool_lines.of_tools(as_printed.rstrip()) if is_of_tool else None
     if of_tool or text.startswith("#"):
         return of_tool or "A comment, which says nothing to the program."
     parts = {code: (group, more, lines) for group, more, code, lines in page()}

@@ -117,7 +117,8 @@ def one_word(word: str) -> str | None:
     """What one word means: of the service, of a line, or of an operation."""
     told = []
     known = words()
-    meaning = known.get(word) or known.get(word.removesuffix("s"))
+    alike = (form for one in (word, word.removesuffix("s")) for form in (one, one.lower(), one.upper()))
+    meaning = next((known[form] for form in (*alike, word.capitalize()) if form in known), None)
     if meaning:
         told.append(filled(f"{meaning[0].upper()}{meaning[1:]}."))
     lines: dict[tuple[str, str], list[str]] = {}

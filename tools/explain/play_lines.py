@@ -251,13 +251,15 @@ def in_the_way(end: Ended) -> typing.Iterator[str]:
 
 def lock_lost(end: Ended) -> typing.Iterator[str]:
     """How a server lost a lock of the job."""
-    job, server = end.job, end.how["server"]
-    for at, is_up, number in end.run.turns.get(server, []):
-        if job.begun < at < job.ended and not is_up:
-            yield (
-                f"Server {server} crashed in line {number}, in the middle of the job, and lost the locks that were not"
-                " prepared."
-            )
+    job, server, since = end.job, end.how["server"], end.since(end.how["server"])
+    crashed = [turn for turn in end.run.turns.get(server, []) if job.begun < turn[0] < job.ended and not turn[1]]
+    if since is not None and not crashed:
+        yield f"Server {server} was down, since line {since}: `return {server}` brings it back."
+    for _, _, number in crashed:
+        yield (
+            f"Server {server} crashed in line {number}, in the middle of the job, and lost the locks that were not"
+            " prepared."
+        )
     for other in end.run.jobs.values():
         for one in other.requests:
             if one.server == server and one.asks("break", job.t) and job.begun < one.at < job.ended:

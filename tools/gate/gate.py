@@ -1,17 +1,21 @@
-"""Runs all tests that need no proof (test.py, `./suites --test`) but those that `rt ci` runs too, and where they pass
-`rt ci`, the gate; tells before its last line how long that took and what each step cost.
+"""The gate: runs all tests that need no proof (test.py, `./suites --test`) but those that `rt ci` runs too, and where
+they pass `rt ci`, and the wrong bodies behind it; tells before its last line what each step cost, beside its bound.
 
-What passes and what fails is rt's alone: its output and its status are handed on as they are. The environment
-variable SUITES_GATE_TIMES names a file that is to keep the times (gate_times.py makes a table of it), and
-RT_JOBS fixes how many checks rt runs side by side.
+What passes and what fails in `rt ci` is rt's alone: its output and its status are handed on as they are. Where all
+passed, status 1 is left for a bound that is passed (bounds.py). Where nothing has changed of what an earlier pass
+proved (passed.py), nothing is proved. The environment variable SUITES_GATE_TIMES names a file that is to keep the times
+(gate_times.py makes a table of it), and RT_JOBS fixes how many checks rt runs side by side.
 """
+import importlib
+import importlib.util
 import os
+import re
 import resource
 import subprocess
 import time
 
 from common import console, memory, of_kit, tool
-from gate import gate_times
+from gate import bounds, gate_times, passed
 
 # The most memory that nearly any check was seen to take, in bytes, and how much of what is free may be taken.
 LANE, SHARE = 2_800_000_000, 0.95
@@ -20,6 +24,8 @@ QUOTAS = (
     ("/sys/fs/cgroup/cpu.max", "/sys/fs/cgroup/cpu.max", r" (\d+)"),
     ("/sys/fs/cgroup/cpu/cpu.cfs_quota_us", "/sys/fs/cgroup/cpu/cpu.cfs_period_us", r"^(\d+)"),
 )
+# Tries wrong bodies: a function `step` of this module, which answers how many were not refused.
+BODIES = "wrong_bodies.gate_step"
 
 
 def processors() -> int:
@@ -46,41 +52,119 @@ def lanes() -> int | None:
     return found if found > 1 else None
 
 
-def tell(times: gate_times.Times, begun: float, number: int | None) -> None:
-    """Tells what each step cost, and keeps it where that was asked for. Nothing fails where it costs too much."""
-    path = os.environ.get("SUITES_GATE_TIMES")
+def spent() -> float:
+    """Processor seconds of this process and of what it waited for."""
+    used = [resource.getrusage(whose) for whose in (resource.RUSAGE_SELF, resource.RUSAGE_CHILDREN)]
+    return sum(one.ru_utime + one.ru_stime for one in used)
+
+
+class Run:
+    """A run of the gate: its lanes, and what its steps cost."""
+
+    def __init__(self, number: int | None) -> None:
+        self.number, self.begun = number, time.monotonic()
+        self.side = number or max(int(os.environ.get("RT_JOBS") or 1), 1)
+        self.most = bounds.kept()
+        self.apart = 0.0
+        self.kit, self.last = self.timed(), ""
+        self.times: bounds.Times = {}
+
+    def timed(self) -> float:
+        """Times the kit's example, apart from the steps."""
+        before = spent()
+        found = bounds.seconds_of_kit(self.side)
+        self.apart += spent() - before
+        return found
+
+    def prove(self) -> int:
+        """Runs `rt ci`, and tells all that it prints but its last line; its status."""
+        given = {**os.environ, **({"RT_JOBS": str(self.number)} if self.number else {})}
+        with subprocess.Popen(
+            of_kit("ci"), env=given, stdout=subprocess.PIPE, stderr=subprocess.STDOUT, errors="replace"
+        ) as gate:
+            watch = gate_times.Watch(gate.pid)
+            watch.start()
+            for line in gate.stdout:
+                print(self.last, end="", flush=True)
+                self.last = line
+            status = gate.wait()
+        watch.ended.set()
+        watch.join()
+        self.times = watch.times()
+        return status
+
+    def try_bodies(self) -> int:
+        """Tries wrong bodies, where there is what does; how many were not refused."""
+        if importlib.util.find_spec(BODIES) is None:
+            return 0
+        before = spent()
+        faults = importlib.import_module(BODIES).step(self.side)
+        self.times[bounds.BODIES] = self.times.get(bounds.BODIES, 0.0) + spent() - before
+        return faults
+
+    def tell(self) -> list[str]:
+        """Tells what each step cost, and keeps it where that was asked for; the bounds that are passed."""
+        self.times[bounds.ELSE] = max(spent() - self.apart - sum(self.times.values()), 0.0)
+        path, slower = os.environ.get("SUITES_GATE_TIMES"), self.kit / self.most[bounds.KIT][0]
+        try:
+            if path:
+                gate_times.write(self.times, path)
+        except OSError as error:
+            print(f"warning: the times were not kept in {path}: {error.strerror}")
+        if bounds.passed(self.times, self.most, slower):
+            self.kit = max(self.kit, self.timed())
+            slower = self.kit / self.most[bounds.KIT][0]
+        print(
+            f"the gate took {(time.monotonic() - self.begun) / 60:.1f} minutes behind the tests with {self.side} checks"
+            f" side by side; the kit's example took {self.kit:.1f} s, so bounds are taken {slower:.2f} times:"
+        )
+        print(*bounds.lines(self.times, self.most, slower), sep="\n", flush=True)
+        return bounds.passed(self.times, self.most, slower)
+
+
+def tree() -> str:
+    """The sum of what is proved here; none where none can be made, which is told."""
     try:
-        if path:
-            gate_times.write(times, path)
-    except OSError as error:
-        print(f"warning: the times were not kept in {path}: {error.strerror}")
-    spent = resource.getrusage(resource.RUSAGE_CHILDREN)
-    whole, provers = spent.ru_utime + spent.ru_stime, sum(sum(row.values()) for row in times.values())
-    side = f" with {number} checks side by side" if number else ""
-    print(
-        f"the gate took {(time.monotonic() - begun) / 60:.1f} minutes{side}, and of processor time"
-        f" {provers / 60:.0f} minutes for proofs and {max(whole - provers, 0) / 60:.0f} for all else:"
-    )
-    for line in gate_times.lines(times, gate_times.bounds()) if times else ["  nothing had to be proved"]:
-        print(line)
+        said = subprocess.run(["rt", "version"], stdin=subprocess.DEVNULL, capture_output=True, text=True)
+        return passed.summed(said.stdout.strip())
+    except (passed.Unknown, OSError) as why:
+        print(f"no sum of the sources is kept: {why}", flush=True)
+        return ""
+
+
+def is_proved(total: str) -> bool:
+    """Whether this sum passed before this landing; tells why not."""
+    try:
+        said = passed.known(total)
+    except passed.Unknown as why:
+        print(f"all is proved: {why}", flush=True)
+        return False
+    print(f"nothing is proved, since all that proofs, programs and their tests are made from passed the gate {said}")
+    return True
+
+
+def summary(line: str, faults: int) -> str:
+    """The last line of rt with faults that rt does not know."""
+    found = re.fullmatch(r"(\d+) passed, (\d+) failed\s*", line)
+    return f"{found[1]} passed, {int(found[2]) + faults} failed\n" if found else line
 
 
 def main() -> int:
     console.words(__doc__).parse_args()
     if subprocess.run(tool("test", "--gate"), stdin=subprocess.DEVNULL).returncode != 0:
         return 1
-    begun, number = time.monotonic(), lanes()
-    given = {**os.environ, **({"RT_JOBS": str(number)} if number else {})}
-    gate = subprocess.Popen(of_kit("ci"), env=given, stdout=subprocess.PIPE, stderr=subprocess.STDOUT, errors="replace")
-    watch = gate_times.Watch(gate.pid)
-    watch.start()
-    last = ""
-    for line in gate.stdout:
-        print(last, end="", flush=True)
-        last = line
-    status = gate.wait()
-    watch.ended.set()
-    watch.join()
-    tell(watch.times(), begun, number)
-    print(last, end="", flush=True)
-    return status
+    total = tree()
+    if total and is_proved(total):
+        print("1 passed, 0 failed")
+        return 0
+    run = Run(lanes())
+    status = run.prove()
+    faults = run.try_bodies() if status == 0 else 0
+    over = run.tell()
+    print(*(f"FAILED: {line}" for line in over), sep="\n", end="\n" if over else "")
+    print(summary(run.last, faults + len(over)), end="", flush=True)
+    if status != 0 or faults or over:
+        return status or 1
+    if total and total == tree():
+        passed.add(total, spent() / 60)
+    return 0

@@ -2,14 +2,14 @@
 
 Runs all tests that need no proof, side by side: the rows of crates/rows/stdin through the program that `./suites`
 runs (which it first makes, where there is none), the tests of libraries, runs and commands without their proofs (`rt
-try`), the examples of docs/FAULTS.md, the command lines that README.md, docs/FAULTS.md and docs/SCRIPTS.md show, what
-`./suites votes` tells, pictures, what `explore` tells and answers, random scripts of `play` against the plain table,
-and the checks of documents. With --long those too that take minutes: every program that only tests and measurements
-have is compiled, instructions are counted, allocations are refused, reads and writes fail, inputs are cut off, lies are
-told about runs, and races between threads are looked for: some ten minutes more on four free processors. The gate
-(.ci/run) begins with it, with --gate: without the tests of crates, which `rt ci` runs as they are proved. Prints a line
-for each part as it ends, of a part that fails also what it printed, and last how many passed and failed. Status 1 where
-one failed.
+try`), the examples of docs/FAULTS.md, the command lines that README.md, docs/FAULTS.md and docs/SCRIPTS.md show,
+events, pictures and pages, what `explore` tells and answers, random scripts of `play` against the plain table, and the
+checks of documents. With --long those too that take minutes: tests of tools, and what is drawn at random in larger
+counts; every program that only tests and measurements have is compiled, instructions are counted, allocations are
+refused, reads and writes fail, inputs are cut off, lies are told about runs, and races between threads are looked for.
+The gate (.ci/run) begins with it, with --gate: without the tests of crates, which `rt ci` runs as they are proved.
+Prints a line for each part as it ends, of a part that fails also what it printed, and last how many passed and failed.
+Status 1 where one failed.
 """
 import os
 import re
@@ -27,7 +27,7 @@ from gate import gate
 STOPPED = "stopped; nothing is kept of tests"
 # The memory that a part was seen to take, in bytes, and the most seconds that it may last.
 BYTES_A_PART, LIMIT = 2_500_000_000, 3600
-# A test may take so many seconds beside other work: one reads 16 MiB six times, with all checks.
+# A test may take so many seconds beside other work.
 TRY = ["rt", "try", "--test", "--seconds", "3000"]
 # How parts tell what passed and failed: all and those that differ, or both as rt has it.
 COUNTS = (
@@ -105,13 +105,11 @@ PARTS = (
     Part("texts of wrong bodies", tool("wrong_bodies", "--check")),
     Part("how edits are read", test("edits.py")),
     Part("what the ledger of wrong bodies takes", test("ledger.py")),
-    Part("what rt finds of crates", test("kit.py")),
-    Part("page of wrong bodies", tool("wrong_bodies_page", "--check")),
-    Part("table of public functions", tool("proved_page", "--check")),
+    Part("words of wrong bodies", tool("wrong_bodies_page", "--check")),
+    Part("laws, and names in PROVED", tool("proved_page", "--check")),
+    Part("what the gate holds", test("gated.py")),
     Part("forms in pages and help", tool("forms_page", "--check")),
     Part("words that need no build", test("wrapper.py")),
-    Part("how tools end", test("ends.py")),
-    Part("what judge says on a terminal", test("watched.py")),
     Part("type hints", test("hints.py")),
     Part("functions that call themselves", test("self-calls.py")),
     Part("names of types", test("one-word.py")),
@@ -128,13 +126,11 @@ PARTS = (
     Part("little memory", test("small.py", "--part", "memory"), [PROGRAM]),
     Part("a stack of 1 MiB", test("small.py"), [PROGRAM]),
     Part("examples of FAULTS", test("explained.py"), [PROGRAM]),
-    Part("what explain says of every line", test("every_line.py"), [PROGRAM]),
-    Part("what explain says of damaged scripts", test("damaged-scripts.py", "--cases", "1000"), [PROGRAM]),
+    Part("damaged scripts", test("damaged-scripts.py", "--cases", "200"), [PROGRAM]),
     Part("command lines of documents", test("typed.py"), [PROGRAM]),
     Part("verdicts on histories", test("judged.py"), [PROGRAM]),
-    Part("verdicts on what callers saw", test("logged.py"), [PROGRAM]),
+    Part("verdicts on what callers saw", test("logged.py", "--runs", "60"), [PROGRAM]),
     Part("how programs end", test("statuses.py"), [PROGRAM]),
-    Part("answers of may", test("may.py"), [PROGRAM]),
     Part(
         "may against the kernel",
         test("may-against-the-kernel.py", "--questions", "100", "--mounts", "--if-possible"),
@@ -145,12 +141,9 @@ PARTS = (
     Part("the shell, import and stories", test("shell.py"), [PROGRAM]),
     Part("programs on the mount", test("mount-programs.py", "--well"), [PROGRAM]),
     Part("sessions and their journals", test("session.py"), [PROGRAM]),
-    Part("what votes tells", test("votes.py"), [PROGRAM]),
-    Part("what votes tells of scripts", test("votes-left.py"), [PROGRAM]),
-    Part("pictures", test("drawn.py"), [PROGRAM]),
-    Part("events", test("events.py"), [PROGRAM]),
+    Part("events and pictures", test("events.py"), [PROGRAM]),
     Part("pages in a browser", test("shown_page.py"), [PROGRAM]),
-    Part("the page of all ways", test("ways_shown.py"), [PROGRAM]),
+    Part("what pages in a browser say", test("page_told.py"), [PROGRAM]),
     Part("the page of a session", test("live_page.py"), [PROGRAM]),
     Part("work done anew", test("work.py"), [PROGRAM]),
     Part("some lies about runs", test("lies.py", "--cases", "200"), [PROGRAM]),
@@ -158,6 +151,15 @@ PARTS = (
 )
 # What --long adds; of allocations each 61st is refused, and inputs are cut at each 29th byte.
 LONG = (
+    Part("how tools end", test("ends.py")),
+    Part("what votes tells", test("votes.py"), [PROGRAM]),
+    Part("answers of may", test("may.py"), [PROGRAM]),
+    Part("the page of all ways", test("ways_shown.py"), [PROGRAM]),
+    Part("everything that can happen, each way", test("explored.py", "--every", "1"), [PROGRAM]),
+    Part("many orders that are drawn", test("sampled.py", "--scripts", "30", "--orders", "2000"), [PROGRAM]),
+    Part("many orders of decisions", test("ordered.py", "--runs", "20", "--ways", "40", "--small", "4"), [PROGRAM]),
+    Part("verdicts on what many callers saw", test("logged.py"), [PROGRAM]),
+    Part("many damaged scripts", test("damaged-scripts.py", "--cases", "2000"), [PROGRAM]),
     Part("programs of tests and measurements", test("compiled.py")),
     Part("instructions", test("instructions.py")),
     Part("crates in another repository", test("taken.py")),

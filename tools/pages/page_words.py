@@ -1,8 +1,9 @@
 """python3 tools page_words [--each]
 
-Counts the words of the pages that are written by hand: README.md, CONTRIBUTING.md and docs/, without the page of wrong
-bodies and without the tables of docs/PROVED.md. A word has a letter or a digit. With --each it tells them page by page.
-README is to be read in one sitting and all pages in an evening, so each has a bound; status 1 where one is passed.
+Counts the words of the pages that are written by hand: README.md, CONTRIBUTING.md and docs/, without the table of
+docs/PROVED.md and what a tool writes between two marks. A word has a letter or a digit. With --each it tells them page
+by page. README is to be read in one sitting and all pages in an evening, so each has a bound; status 1 where one is
+passed.
 """
 import glob
 import os
@@ -11,14 +12,14 @@ import re
 from common import TOP, console, text_of
 
 FRONT, MOST_IN_FRONT, MOST = "README.md", 1_800, 30_000
-WRITTEN = ("WRONG-BODIES.md",)
 OF_TABLES = "PROVED.md"
 TABLE = re.compile(r"^\|.*\n", re.M)
+WRITTEN_BY_TOOLS = re.compile(r"^<!-- [^\n]*: written by [^\n]* -->\n.*?^<!-- end of ", re.M | re.S)
 
 
 def words_of(path: str) -> int:
     """How many words a page has that are written by hand."""
-    text = text_of(path)
+    text = WRITTEN_BY_TOOLS.sub("", text_of(path))
     if os.path.basename(path) == OF_TABLES:
         text = TABLE.sub("", text)
     return sum(any(map(str.isalnum, word)) for word in text.split())
@@ -27,7 +28,7 @@ def words_of(path: str) -> int:
 def counts() -> dict[str, int]:
     below = sorted(glob.glob(os.path.join(TOP, "docs", "*.md")))
     pages = [os.path.join(TOP, FRONT), os.path.join(TOP, "CONTRIBUTING.md"), *below]
-    return {os.path.relpath(path, TOP): words_of(path) for path in pages if os.path.basename(path) not in WRITTEN}
+    return {os.path.relpath(path, TOP): words_of(path) for path in pages}
 
 
 def main() -> int:

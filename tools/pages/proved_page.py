@@ -1,28 +1,27 @@
-"""Writes the two tables of docs/PROVED.md that come from the sources, and holds the names above them against these; and
-the table of docs/ARCHITECTURE.md that says on which definitions the program stands (believed.py).
+"""Prints what is proved, as the sources say it: a table of the laws and one of all other public functions.
 
-    python3 tools proved_page           writes the tables (each between its two marks)
-    python3 tools proved_page --check   writes nothing; tells what differs, with status 1
+    python3 tools proved_page                 prints the two tables
+    python3 tools proved_page --check         prints what is wrong, with status 1
+    python3 tools proved_page --definitions   writes the table of docs/ARCHITECTURE.md
 
 Both tables go crate by crate in the order of crates.txt. The first has the laws, each with its lines `///`. A law is
 a public function that has a contract and does nothing: one whose lines begin "A law", one of a file laws.rt, or one
 of a crate whose name begins with law_. The second has the other public functions that have a contract: those of
 public types and traits (`Type::name`, the names of one type together), and those that stand alone, each with the
-names of its clauses. Of the table above them, which says in words what is proved, each name in the last column has to
-be in the crate of its row. A law without lines is a fault. ./suites --test runs --check.
+names of its clauses. Of the table of docs/PROVED.md, which says in words what is proved, each name in the last column
+has to be in the crate of its row. A law without lines is a fault. The table of docs/ARCHITECTURE.md says on which
+definitions the program stands (believed.py). ./suites --test runs --check.
 """
 import glob
 import os
 import re
 import typing
 
-from common import TOP, functions, page, text_of
+from common import TOP, console, functions, page, text_of
 from common.crates import listed
 from pages import believed
 
 PAGE = os.path.join("docs", "PROVED.md")
-LAWS = "<!-- laws: written by tools/pages/proved_page.py -->", "<!-- end of laws -->"
-FUNCTIONS = "<!-- public functions: written by tools/pages/proved_page.py -->", "<!-- end of public functions -->"
 CLAUSE = re.compile(r"\bensures\*? (?:(\w+) )?\{")
 OF_TESTS = ("library_tests", "run_tests", "command_tests")
 
@@ -135,11 +134,17 @@ def faults(text: str) -> typing.Iterator[str]:
 
 
 def main() -> int:
-    only_looks = page.is_check(__doc__)
-    new, before = page.between(text_of(PAGE), LAWS, table_of_laws())
-    new, _ = page.between(new, FUNCTIONS, table_of_functions())
-    status = page.written(PAGE, new, list(faults(before)), "from the sources", only_looks)
+    read = console.words(__doc__)
+    read.add_argument("--check", action="store_true")
+    read.add_argument("--definitions", action="store_true")
+    given = read.parse_args()
+    if not given.check and not given.definitions:
+        print(f"# Laws\n\n{table_of_laws()}\n\n# Public functions\n\n{table_of_functions()}")
+        return 0
+    wrong = [*faults(text_of(PAGE))] if given.check else []
+    print(*wrong, sep="\n", end="\n" if wrong else "")
     table, count = believed.table(crates())
     new, _ = page.between(text_of(believed.PAGE), believed.MARKS, table)
-    wrong = [fault] if (fault := believed.fault(count)) else []
-    return max(status, page.written(believed.PAGE, new, wrong, "from the definitions", only_looks))
+    of_definitions = [fault] if (fault := believed.fault(count)) else []
+    status = page.written(believed.PAGE, new, of_definitions, "from the definitions", given.check)
+    return 1 if wrong else status

@@ -9,7 +9,7 @@ that of a row, and an output that of the script or the command before it; behind
 many lines of it. Each text of help/ but that of the tools has to be what a row of help prints: with --help-texts it
 is written from that row. The end of the mount's story in README.md has to stand in its test. What differs is told, and
 the status is 1. The rows themselves are played by the program of crates/rows, commands of tools, with what the pages
-show of them, by tests/typed.py, and the picture of a run is drawn by tests/drawn.py.
+show of them, by tests/typed.py, and the picture of a run is drawn by tests/events.py.
 """
 import os
 import pathlib

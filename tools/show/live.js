@@ -40,7 +40,7 @@ const Live = (() => {
 
   function take(answer) {
     epoch = answer.epoch;
-    Page.goOn(answer.kept, answer.events, answer.script);
+    Page.goOn(answer.kept, answer.events, answer.script, answer.whys);
     nameWhoCalls();
     if (answer.ended) end(answer.ended);
     else if (answer.wrong) say([...answer.told, answer.wrong], "bad");

@@ -64,6 +64,7 @@ class Told:
     kept: int
     events: list[str]
     script: list[str]
+    whys: dict[str, list[str]]
 
 
 class Desk:
@@ -71,7 +72,7 @@ class Desk:
 
     def __init__(self, session: Session, lines: list[str]) -> None:
         self.session, self.lines, self.ended, self.epoch = session, lines, "", 0
-        self.events = self.traced()
+        self.events, self.whys = self.traced()
         # one line after the other, whoever asks
         self.lock = threading.Lock()
 
@@ -81,10 +82,11 @@ class Desk:
     def text(self) -> bytes:
         return "".join(f"{line}\n" for line in self.script()).encode()
 
-    def traced(self) -> list[str]:
-        """The events so far, without what tells that the script is played to its end."""
+    def traced(self) -> tuple[list[str], dict[str, list[str]]]:
+        """The events so far, without what tells that the script is played to its end, and why jobs ended so."""
         try:
-            return show.shown_of(self.text(), 0, sys.maxsize).events[:-1]
+            shown = show.shown_of(self.text(), 0, sys.maxsize)
+            return shown.events[:-1], shown.whys
         except SystemExit as end:
             raise console.Stop(f"the script so far cannot be traced: status {end.code}") from None
 
@@ -93,7 +95,7 @@ class Desk:
         with self.lock:
             told, wrong = ([], "") if self.ended else self.given(line)
             kept = min(have, len(self.events)) if epoch == self.epoch else 0
-            return Told(told, wrong, self.ended, self.epoch, kept, self.events[kept:], self.script())
+            return Told(told, wrong, self.ended, self.epoch, kept, self.events[kept:], self.script(), self.whys)
 
     def given(self, line: str) -> tuple[list[str], str]:
         """What the session tells of a line, and what is wrong with it."""
@@ -115,7 +117,7 @@ class Desk:
         if word_of(line) in beginning.NAMES:
             self.epoch += 1
         try:
-            self.events = self.traced()
+            self.events, self.whys = self.traced()
         except console.Stop as why:
             self.end(f"The page ends here: {why}.")
 
@@ -131,7 +133,7 @@ class Desk:
                 "operations": [operation.form() for operation in forms.OPERATIONS.values()],
             }
             besides = show.Besides("live.js", "live", more, True)
-            return show.page_of(self.text(), show.Shown(self.events), besides).encode()
+            return show.page_of(self.text(), show.Shown(self.events, None, self.whys), besides).encode()
 
 
 class Server(http.server.ThreadingHTTPServer):

@@ -160,7 +160,7 @@ const Model = (() => {
       t: AGENTS * (event.by.jobs - 1) + agent,
       text: isSweep ? `sweeps server ${words[2]}` : words.slice(5).join(" "),
       user: isSweep ? null : words[2], groups: isSweep ? [] : words[3].split(","),
-      line: event.line, refused: {}, shown: {}, parts: null, prepared: [], decided: null, told: [],
+      line: event.line, refused: {}, shown: {}, parts: [], prepared: [], decided: null, told: [],
     };
   }
 
@@ -175,8 +175,10 @@ const Model = (() => {
       return { ...job, shown: { ...job.shown, [request.suite]: { ...job.shown[request.suite], [server]: reply } } };
     }
     if (request.asks === "prepare") {
-      const prepared = reply.says === "prepared" ? [...job.prepared, server] : job.prepared;
-      return { ...job, parts: request.parts, prepared };
+      if (reply.says !== "prepared") return job;
+      // each server is sent what it is to store, which not all are alike
+      const kept = request.parts.filter((part) => part.takes !== "nothing").map((part) => ({ ...part, server }));
+      return { ...job, parts: [...job.parts, ...kept], prepared: [...job.prepared, server] };
     }
     if (request.asks === "decide") {
       return { ...job, decided: reply.says === "verdict" ? verdictWord(reply.verdict) : reply.says };
@@ -188,10 +190,8 @@ const Model = (() => {
   // From a decision on, what was prepared is in effect.
   function inEffect(newest, job, event) {
     const isDecided = event.request && event.request.asks === "decide" && event.reply.says === "verdict";
-    if (isDecided && job && job.parts && verdictWord(event.reply.verdict) === "answered") {
-      for (const part of job.parts) {
-        if (part.takes !== "nothing") newest = raised(newest, part.suite, part.prefix, part.content || 0);
-      }
+    if (isDecided && job && verdictWord(event.reply.verdict) === "answered") {
+      for (const part of job.parts) newest = raised(newest, part.suite, part.prefix, part.content || 0);
     }
     return newest;
   }
@@ -394,7 +394,7 @@ const Model = (() => {
         const votes = votesThen(world, events[events.length - 1]);
         if (!votes) return { text: `locks of ${pathOf(paths, request.suite)}: ${good} of ${events.length}`, good };
         const isEnough = votes.got >= votes.of;
-        return { text: `locks of ${pathOf(paths, request.suite)}: ${votes.got} of ${votes.of} votes`, good: isEnough ? events.length : good };
+        return { text: `locks of ${pathOf(paths, request.suite)}: ${votes.got} vote${votes.got === 1 ? "" : "s"}, ${votes.of} needed`, good: isEnough ? events.length : good };
       }
       case "prepare": return { text: `prepare ${count}`, good };
       case "finish": return { text: `finish ${verdictWord(request.verdict)} ${count}`, good };

@@ -5,6 +5,7 @@ const Page = (() => {
   const given = JSON.parse(document.getElementById("given").textContent);
   let run = Model.read(given.events, given.before);
   run.names = Saying.namesIn(given.script);
+  run.whys = given.whys;
   const find = (name) => document.getElementById(name);
   const [slider, moment, says, world, script, hint, life] = ["slider", "moment", "says", "world", "script", "hint", "life"].map(find);
   let here = 0;
@@ -78,7 +79,7 @@ const Page = (() => {
     if (server.locks.length) card.append(make("div", {}, ...server.locks.map((lock) => lockPart(state, lock))));
     if (server.denials.length) {
       const last = server.denials[server.denials.length - 1];
-      const told = `${server.denials.length} denied; last t ${last.t}: ${last.denied}`;
+      const told = `${server.denials.length} ${server.denials.length === 1 ? "denial" : "denials"} recorded; last t ${last.t}: ${last.denied}`;
       card.append(make("div", { class: "small bad" }, told));
     }
     return card;
@@ -93,7 +94,7 @@ const Page = (() => {
       const list = prefix === null ? "" : `, shows list ${prefix}`;
       const mark = { gave: "", old: " old", "not asked": "" }[says];
       const text = `s${server}${mark === undefined ? ` ${says}` : mark}`;
-      const part = make("span", { class: `vote ${says.replace(" ", "-")}`, title: `server ${server}: ${votes} votes, ${says}${list}` }, text);
+      const part = make("span", { class: `vote ${says.replace(" ", "-")}`, title: `server ${server}: ${votes} vote${votes === 1 ? "" : "s"}, ${says}${list}` }, text);
       part.style.flexGrow = Math.max(votes, 0.4);
       return part;
     });
@@ -107,7 +108,7 @@ const Page = (() => {
     const content = `content c${one.content} (s${one.source}${one.open ? ", read" : ""})`;
     const known = one.prefix === undefined ? "" : `; list p${one.prefix}${lists ? ` (${lists})` : ""}, ${content}`;
     const about = { class: "small", "data-gathered": `${one.suite} ${one.mode} ${one.newest} ${one.held}` };
-    const votes = make("span", { class: got < of ? "open" : "" }, `${got} of ${of} votes`);
+    const votes = make("span", { class: got < of ? "open" : "", "data-votes": `${one.suite} ${got} ${of}` }, `${got} ${got === 1 ? "vote" : "votes"}, ${of} needed`);
     return make("div", about, `${pathOf(one.suite)} `, word(one.mode), ": ", votes, `${where ? ` (${where})` : ""}${known}`, votesBar(one, job));
   }
 
@@ -116,9 +117,9 @@ const Page = (() => {
     const parts = gathered.map((one) => suitePart(one, job));
     const named = (servers) => servers.map((one) => `s${one}`).join(" ");
     const add = (kind, ...told) => parts.push(make("div", { class: kind }, ...told));
-    const kept = (job.parts || []).filter((part) => part.takes !== "nothing");
-    const leaves = kept.map((part) => `${pathOf(part.suite)} list p${part.prefix}${part.takes === "whole" ? `, content c${part.content} ${contentOf(part)}` : ""}`);
-    if (job.prepared.length) add("small", word("prepared"), `: ${named(job.prepared)}${leaves.length ? `, to leave ${leaves.join("; ")}` : ""}`);
+    const leaves = (part) => `${pathOf(part.suite)} list p${part.prefix}${part.takes === "whole" ? `, content c${part.content} ${contentOf(part)}` : ""}`;
+    const kept = [...Saying.byPart(job.parts)].map(([part, servers]) => `${leaves(part)} at ${named(servers)}`);
+    if (job.prepared.length) add("small", word("prepared"), `: ${named(job.prepared)}${kept.length ? `, to store ${kept.join("; ")}` : ""}`);
     if (job.decided) add(`small ${kindOf(job.decided)}`, `decided: ${job.decided}`);
     if (job.told.length) add("small", `told the end: ${named(job.told)}`);
     return parts;
@@ -145,7 +146,7 @@ const Page = (() => {
     if (job) {
       const told = job.user === null ? job.text : `${Saying.userOf(run, job.user)}: ${job.text}`;
       card.append(` job ${job.number} (t ${job.t})`, make("div", {}, told));
-      const next = agent.next ? ["; asks next: ", word(agent.next), ` of server ${agent.of}`] : [];
+      const next = agent.next ? [make("span", { class: "next" }, "; asks next: ", word(agent.next), ` of server ${agent.of}`)] : [];
       card.append(make("div", { class: "small" }, word(agent.stage), ...next), ...gatheredPart(agent));
     } else if (end) {
       const ended = { class: kindOf(end.text), "data-ended": `${end.agent}.${end.job}` };
@@ -189,7 +190,9 @@ const Page = (() => {
   // What happens at the moment, in a sentence, and what the script says above its line.
   function showSaying() {
     const caption = Saying.caption(given.script, run.events[here].line);
-    says.replaceChildren(make("p", { class: "sentence" }, Saying.of(run, here)), ...(caption ? [make("p", { class: "caption" }, caption)] : []));
+    const why = Saying.why(run, here);
+    says.replaceChildren(make("p", { class: "sentence" }, Saying.of(run, here)), ...(why.length ? [make("p", { class: "why" }, why.join(" "))] : []),
+      ...(caption ? [make("p", { class: "caption" }, caption)] : []));
   }
 
   // ---- the script
@@ -249,6 +252,7 @@ const Page = (() => {
       if (!isSeen) script.scrollTop = top - script.clientHeight / 2;
     }
     for (const [place, one] of toldParts) one.classList.toggle("later", place > here);
+    lineParts.forEach((one, number) => one.classList.toggle("later", number > run.events[here].line));
   }
 
   // ---- a file through time
@@ -261,7 +265,7 @@ const Page = (() => {
     const rows = Model.lifeOf(run, suite).map(({ event, server, copy }) => {
       const cells = [make("button", { onclick: leave(event) }, `moment ${event}`), `server ${server}`,
         `p${copy.prefix} c${copy.content}`, Model.shortList(copy.list), copy.votes, contentOf(copy)];
-      return make("tr", { class: event <= here ? "here" : null }, ...cells.map((cell) => make("td", {}, cell)));
+      return make("tr", { class: event <= here ? "here" : "later" }, ...cells.map((cell) => make("td", {}, cell)));
     });
     const head = ["", "stored at", "versions", "list", "votes", "content"].map((text) => make("th", {}, text));
     life.replaceChildren(make("form", { method: "dialog" }, make("button", {}, "close")),
@@ -330,7 +334,13 @@ const Page = (() => {
   }
 
   // Large type, and nothing of what is still to come.
-  const present = () => document.body.classList.toggle("presents");
+  function present() {
+    const presents = document.body.classList.toggle("presents");
+    // a folded phase tells what comes of it
+    find("fold").disabled = presents;
+    picture.foldAll(!presents && find("fold").checked);
+    go(here);
+  }
 
   const WAYS = { first: () => go(0), back: () => go(here - 1), on: () => go(here + 1), end: () => go(run.last), play };
   const KEYS = {
@@ -361,10 +371,11 @@ const Page = (() => {
   const picture = new Drawing.Picture(run, find("names"), find("rows"), pick);
 
   // The run went on: so many of its events stand, and behind them are these, which this script comes to. It is shown as it is now.
-  function goOn(kept, lines, text) {
+  function goOn(kept, lines, text, whys) {
     given.script = text;
     run = Model.grown(run, kept, lines);
     run.names = Saying.namesIn(text);
+    run.whys = whys;
     slider.max = run.last;
     buildScript();
     picture.take(run);

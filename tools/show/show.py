@@ -15,6 +15,7 @@ import webbrowser
 
 from common import TOOLS, console, quoted, text_of
 from explain import explain, faults
+from show import whys
 from trace import states, trace
 from trace.events import Player
 
@@ -64,10 +65,13 @@ def meanings() -> dict[str, str]:
 
 @dataclasses.dataclass
 class Shown:
-    """The events of a run, or of a part of one, as lines; and what a part has to know of what was before."""
+    """The events of a run, or of a part of one, as lines; what a part has to know of what was before; and why jobs
+    ended so, by the numbers of events.
+    """
 
     events: list[str]
     before: dict | None = None
+    whys: dict[str, list[str]] = dataclasses.field(default_factory=dict)
 
 
 class Besides(typing.NamedTuple):
@@ -101,7 +105,9 @@ def shown_of(script: bytes, first: int, last: int) -> Shown:
             kept.append(line)
             if len(kept) > MOST_EVENTS:
                 raise console.Stop(TOO_MANY.format(MOST_EVENTS, event['line']))
-    return Shown([before.opening(), *kept[1:]], before.before()) if first > 1 else Shown(kept)
+    ends = [json.loads(kept[at])["event"] for at in (min(1, len(kept) - 1), -1)]
+    told = whys.whys_of(script, *ends)
+    return Shown([before.opening(), *kept[1:]], before.before(), told) if first > 1 else Shown(kept, None, told)
 
 
 def embedded(data: object) -> str:

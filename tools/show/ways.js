@@ -63,7 +63,7 @@ const Ways = (() => {
 
   // Shows the run that leads to a way, from its beginning.
   function showWay(way) {
-    Page.goOn(0, [...first.slice(0, way.shared), ...way.events], way.script);
+    Page.goOn(0, [...first.slice(0, way.shared), ...way.events], way.script, way.whys);
     here = way.number;
     mark();
     // what all ways have in common is past

@@ -37,6 +37,7 @@ class Run(typing.NamedTuple):
     events: list[str]
     decided: list[str]
     asked: dict[str, str]
+    whys: dict[str, list[str]]
 
 
 def ways_of(lines: Sequence[str]) -> list[Way]:
@@ -70,9 +71,10 @@ def asked_in(told: Iterable[Event]) -> dict[str, str]:
 
 
 def run_of(script: bytes) -> Run:
-    events = show.shown_of(script, 0, sys.maxsize).events
-    told = [*map(json.loads, events)]
-    return Run(script.decode("utf-8", "replace").splitlines(), events, decided_in(told), asked_in(told))
+    shown = show.shown_of(script, 0, sys.maxsize)
+    told = [*map(json.loads, shown.events)]
+    lines = script.decode("utf-8", "replace").splitlines()
+    return Run(lines, shown.events, decided_in(told), asked_in(told), shown.whys)
 
 
 def runs_of(ways: Sequence[Way], leads: Callable[[int], bytes], say: Callable[[str], None]) -> dict[int, Run]:
@@ -98,6 +100,7 @@ def data_of(ways: Sequence[Way], runs: dict[int, Run], command: Callable[[int], 
         if run:
             own = [job for job in run.decided if any(line.startswith(f"{job} ") for line in way.lines)]
             about |= {"shared": shared, "events": run.events[shared:], "script": run.script, "decided": own}
+            about["whys"] = run.whys
         else:
             about |= {"command": command(way.number), "decided": way.decided or []}
         told.append(about)
@@ -134,4 +137,4 @@ def page_of(
         "answers": answers_to(questions, lines, not lines[-1].startswith("not all")),
     }
     script = "".join(f"{line}\n" for line in first.script).encode()
-    return show.page_of(script, show.Shown(first.events), show.Besides("ways.js", "ways", more))
+    return show.page_of(script, show.Shown(first.events, None, first.whys), show.Besides("ways.js", "ways", more))

@@ -98,11 +98,13 @@ class Part(Retold):
         asked, number = event.get("request", {}).get("asks"), event.get("by", {}).get("agent")
         # what was prepared is in effect from a decision on
         if asked == "prepare":
-            self.parts[number] = [part for part in event["request"]["parts"] if part["takes"] != "nothing"]
+            kept = [part for part in event["request"]["parts"] if part["takes"] != "nothing"]
+            self.parts.setdefault(number, []).extend(kept if event["reply"]["says"] == "prepared" else ())
         elif asked == "decide" and event["reply"].get("verdict", "").startswith("answered"):
             self.raise_all(self.parts.get(number, ()))
         if "end" in event:
             self.jobs.pop(number, None)
+            self.parts.pop(number, None)
             self.ends[number] = event["end"]
         elif begun(event):
             self.jobs[number] = [line]

@@ -1,23 +1,20 @@
-"""Writes docs/WRONG-BODIES.md: each wrong body of crates/NAME/must-fail and crates/NAME/wrong, crate by crate.
+"""Prints each wrong body, an edit that makes a function or a definition wrong and that the prover has to refuse.
 
-    python3 tools wrong_bodies_page           writes the page
-    python3 tools wrong_bodies_page --check   writes nothing; tells what differs, with status 1
+    python3 tools wrong_bodies_page           prints them as a page, crate by crate
+    python3 tools wrong_bodies_page --check   prints only what is wrong with an edit's words, with status 1
 
 The first line of an edit says what it makes wrong (`why: ..`), the second which function refuses it and by which
-clause (`refused by: ..`). ./suites --test runs --check.
+clause (`refused by: ..`). ./suites --test runs --check. What those of the crates that all runs go through would do,
+were they not refused, bench/harm.py prints.
 """
 import collections
 import itertools
-import os
 import typing
 
-from common import TOP, crates, page, text_of
+from common import console, crates, text_of
 from wrong_bodies import changes, wrong_bodies
 
-PAGE = os.path.join("docs", "WRONG-BODIES.md")
-SHOWN = os.path.join(TOP, "docs", "wrong-bodies-shown.txt")
 PLACES = ((wrong_bodies.GATE, "gate"), (wrong_bodies.BESIDE, "beside"))
-MARKS = "<!-- edits: written by tools/wrong_bodies/wrong_bodies_page.py -->", "<!-- end of edits -->"
 # The bodies that a reader of the service's rules asks for first, by their plain names, and of those that no clause can
 # refuse the test that does.
 ASKED = """
@@ -33,26 +30,20 @@ BY_TESTS = {
     "one_lock_for_all": "`a_list_overlaps_a_sweep` of `run_tests`: two servers are asked at one time",
     "always_memory": "the rows of `crates/rows`, each of which has its status and its lines",
 }
+HEAD = """# Wrong bodies
+
+Each line is an edit that makes a function, a definition or a condition wrong. The prover must refuse it: if it does
+not, a contract is too weak. The gate holds those marked `gate`; one marked `beside` was refused when it was last tried,
+or its last column says that it was not tried yet. That column names the function, and in brackets the clause or the
+definition that the edit breaks. A function with one clause is named alone. There are {gate} in the gate and {beside}
+beside it.
+"""
 BY_NAME = """## By name
 
 The bodies that a reader of the service's rules asks for first. No clause can refuse the last two, so a test does.
 
 | Wrong body | Its edit |
 |---|---|
-"""
-WOULD_DO = """## What they would do
-
-Those of the crates that all runs go through, each taken in an unproved build in the place of the right function, as
-`bench/harm.py` saw it: {count} of them. It has `explore` tell the ways of the stories in `examples/explore` and
-`tests/explored`, or plays the scripts of the right ways, and compares what was decided with the plain table, in the
-order of the decisions. Of {answer} a story has an answer that is not the table's: told is the smallest such story, the
-script with the fewest events that shows it there (`begin 0`: agent 0 begins its next job of the story), and what
-differs. Of {ways} the stories have other ways, or the search goes on or ends; {none} no story shows. The last column
-counts the rows of `play` in `crates/rows` that are answered otherwise (`-`: not counted); {unseen} neither a story nor
-a row shows: of most of these no command tells what they are about.
-
-| Wrong body | What comes of it | Story | Fewest events | Rows |
-|---|---|---|---|---:|
 """
 
 
@@ -90,41 +81,20 @@ def by_name(faults: list[str]) -> str:
     return BY_NAME + "\n".join(lines) + "\n"
 
 
-def would_do(faults: list[str]) -> str:
-    """The table of what wrong bodies would do. One without an edit is added to the faults."""
-    known = {f"{crate}/{wrong_bodies.name_of(path)}" for crate, _, path in edits()}
-    told = []
-    for piece in text_of(SHOWN).strip().split("\n\n"):
-        name, _, rest = piece.partition("\n")
-        words = dict(line.split(": ", 1) for line in rest.split("\n"))
-        if name not in known:
-            faults.append(f"{name}: there is no such edit, though {os.path.relpath(SHOWN, TOP)} has it")
-        told.append((name, words))
-    counts = {
-        "count": len(told),
-        "answer": sum(words["shows"] == "answer" for _, words in told),
-        "ways": sum(words["shows"] in ("ways", "end") for _, words in told),
-        "none": sum(words["shows"] == "nothing" for _, words in told),
-        "unseen": sum(words["shows"] == "nothing" and words["rows"] == "0" for _, words in told),
-    }
-    lines = [
-        f"| `{name}` | {words['comes']} | {words.get('story', '')} | {words.get('script', '')} | {words['rows']} |"
-        for name, words in told
-    ]
-    return WOULD_DO.format(**counts) + "\n".join(lines) + "\n"
-
-
 def whole_page() -> tuple[str, list[str]]:
     """The page, and what is wrong with the edits."""
     counts, faults = collections.Counter(place for _, place, _ in edits()), list[str]()
-    parts = [f"There are {counts['gate']} in the gate and {counts['beside']} beside it.\n"]
+    parts = [HEAD.format(**counts)]
     for crate, those in itertools.groupby(edits(), lambda edit: edit[0]):
         head = [f"## `{crate}`\n", "| Wrong body | Tried | What it makes wrong | Refused by |", "|---|---|---|---|"]
         parts.append("\n".join([*head, *(row(*edit, faults) for edit in those), ""]))
-    told = "\n".join([*parts, by_name(faults), would_do(faults)])
-    return page.between(text_of(PAGE), MARKS, told.rstrip("\n"))[0], faults
+    return "\n".join([*parts, by_name(faults)]), faults
 
 
 def main() -> int:
-    only_looks = page.is_check(__doc__)
-    return page.written(PAGE, *whole_page(), "from the edits", only_looks)
+    read = console.words(__doc__)
+    read.add_argument("--check", action="store_true")
+    only_looks = read.parse_args().check
+    page, faults = whole_page()
+    print("\n".join(faults) if only_looks or faults else page, end="\n" if faults else "")
+    return 1 if faults else 0

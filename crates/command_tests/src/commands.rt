@@ -1,4 +1,4 @@
-//! What no row can say: streams that fail, inputs that a loop makes, and that help is told.
+//! What no row can say: streams that fail.
 
 use byte_streams::{MemoryIn, MemoryOut};
 use std::process::Abort;
@@ -25,79 +25,6 @@ fn holds(rt: &impl Abort, given: bool, about: &str, number: u64) {
 /// Appends to a text.
 fn add(rt: &impl Abort, text: &mut Vec<u8>, piece: &[u8]) {
     text.extend_from_slice(piece).expect(rt, "memory");
-}
-
-fn tells_help(rt: &(impl Abort + AllocGlobal + Threads + Wait + Sync), words: &[&str]) {
-    let reader = MemoryIn::failing_at(&[], 0);
-    let (status, writer) = played(rt, words, reader, MemoryOut::new(rt.alloc()));
-    holds(rt, status == 0, "help: status", u64::from(status));
-    holds(rt, writer.bytes().ends_with(b"\n"), "help: lines", 1);
-}
-
-#[test]
-fn helps(rt: HostRuntime) {
-    tells_help(&rt, &["--help"]);
-    tells_help(&rt, &["acl", "-h"]);
-}
-
-/// A text with a byte put into it.
-fn text_with(rt: &(impl Abort + AllocGlobal), before: &str, byte: u8, after: &str) -> Vec<u8> {
-    let mut text = Vec::new(rt.alloc());
-    add(rt, &mut text, before.as_bytes());
-    add(rt, &mut text, &[byte]);
-    add(rt, &mut text, after.as_bytes());
-    text
-}
-
-/// Whether a text with a byte put into it is a list; else it has a fault.
-fn is_list(
-    rt: &(impl Abort + AllocGlobal + Threads + Wait + Sync),
-    before: &str,
-    byte: u8,
-    after: &str,
-) -> bool {
-    let text = text_with(rt, before, byte, after);
-    let writer = MemoryOut::new(rt.alloc());
-    let (status, writer) = played(rt, &["acl"], MemoryIn::new(&text), writer);
-    let begin: &[u8] = if status == 0 {
-        b"user::r--\n"
-    } else {
-        b"fault A"
-    };
-    holds(rt, status == 0 || status == 3, before, u64::from(byte));
-    holds(
-        rt,
-        writer.bytes().starts_with(begin),
-        before,
-        u64::from(byte),
-    );
-    status == 0
-}
-
-/// So many bytes make a list between two texts.
-fn makes_lists(
-    rt: &(impl Abort + AllocGlobal + Threads + Wait + Sync),
-    before: &str,
-    after: &str,
-    lists: u64,
-) {
-    let mut taken = 0u64;
-    for byte in 0..=255u8 {
-        if is_list(rt, before, byte, after) {
-            taken = taken.saturating_add(1);
-        }
-    }
-    holds(rt, taken == lists, before, taken);
-}
-
-#[test]
-fn reads_each_byte_in_three_places(rt: HostRuntime) {
-    // u, g, and # as a comment
-    makes_lists(&rt, "", ":1:r\nu::r,g::r,m::r,o::r", 3);
-    // ten digits
-    makes_lists(&rt, "u:", ":r\nu::r,g::r,m::r,o::r", 10);
-    // r, w, x, a hyphen, three of white space, two ends of an item, a comment
-    makes_lists(&rt, "u:1:", "\nu::r,g::r,m::r,o::r", 10);
 }
 
 /// A command with its input, and its status and output where nothing fails.
@@ -231,35 +158,4 @@ fn tells_each_stream_that_fails(rt: HostRuntime) {
     tells_failures_of(&rt, "acl", "x", 3, "fault A9 item 1\n", 2);
     tells_failures_of(&rt, "no", "", 2, "fault command line\n", 0);
     tells_failures_of(&rt, "--version", "", 2, "fault command line\n", 0);
-}
-
-/// A comment of 16 MiB, 256 times 65,536 bytes, and these bytes behind it, give this status and output.
-fn reads_comment(
-    rt: &(impl Abort + AllocGlobal + Threads + Wait + Sync),
-    word: &str,
-    more: &[u8],
-    status: u8,
-    output: &str,
-) {
-    let piece = b"#".as_slice().repeat(rt.alloc(), 65_536);
-    let piece = piece.expect(rt, "memory");
-    let mut bytes = Vec::new(rt.alloc());
-    for _ in 0..256u64 {
-        add(rt, &mut bytes, &piece);
-    }
-    add(rt, &mut bytes, more);
-    let writer = MemoryOut::new(rt.alloc());
-    let (given, writer) = played(rt, &[word], MemoryIn::new(&bytes), writer);
-    holds(rt, given == status, word, u64::from(given));
-    holds(rt, writer.bytes() == output.as_bytes(), word, 16_777_216);
-}
-
-#[test]
-fn reads_no_more_than_16_mib(rt: HostRuntime) {
-    reads_comment(&rt, "table", b"", 3, "fault line 2: S2\n");
-    reads_comment(&rt, "table", b"#", 6, "");
-    reads_comment(&rt, "play", b"", 3, "fault line 2: S2\n");
-    reads_comment(&rt, "play", b"#", 6, "");
-    reads_comment(&rt, "acl", b"", 3, "fault A1\n");
-    reads_comment(&rt, "acl", b"#", 6, "");
 }

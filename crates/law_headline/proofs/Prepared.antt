@@ -1,17 +1,21 @@
 -- In every run what is prepared at a decision is the part that the transaction sent: event by event.
-use Rattle.law_headline.proofs.Vocabulary.{◌≡◌, ℕ, ◌+◌, ◌<◌, Bool, IsTrue, true, false, cond, List, Option, Some, None, refl, sym, ap, subst, ◌∙◌, ◌*◌, ◌&&◌, nat_lt, slice_get, slice_set, arith, same_Some, Opening, Part, Request, Reply, State}
-use Rattle.law_headline.proofs.Vocabulary.{answer_of, is_full, GatheredSuite, suite_of, part_of, Response, Replied, Lacked, Job, Transaction, Sweep, Proposal, Deciding, TransactionRun, Doing, Running, changes_of, Begin, Step, Crash, Return, Forget}
-use Rattle.law_headline.proofs.Vocabulary.{Lack, Actor, server_at, actor_at, answered, asks_at, asks, steps_once, lacks_for, lacks, operated, operates, becomes, step, Beginning, World, begun, holds_exclusively, prepare_of, moves, beginning}
-use Rattle.law_headline.proofs.Vocabulary.{decision_by, begun_events, own_events, run-append, AllLinked, IsDoing, numbered_at, ToldBelow, actor_opens, AllAgree, PreparedPart, home_in, begin_events, answered_events, asked_at_events, asked_events}
-use Rattle.law_headline.proofs.Vocabulary.{step_events, lacks_for_events, lack_events, operated_events, operator_events, moved, set_here, set_apart, same_or, numbered_of}
+use Rattle.law_headline.proofs.Vocabulary.{◌≡◌, ℕ, ◌+◌, ◌<◌, IsTrue, true, false, cond, List, [], ◌++◌, Option, Some, refl, sym, ap, subst, ◌∙◌, ◌*◌, ◌&&◌, nat_lt, slice_get, slice_set, arith, same_Some, Opening, Part, Request, Reply, State}
+use Rattle.law_headline.proofs.Vocabulary.{answer_of, GatheredSuite, suite_of, part_of, Response, Replied, Lacked, Job, Transaction, Sweep, Proposal, Deciding, TransactionRun, Doing, Running, changes_of}
+use Rattle.law_headline.proofs.Vocabulary.{Actor, actor_at, answered, operated, step, Beginning, World, begun, holds_exclusively, prepare_of, moves, beginning}
+use Rattle.law_headline.proofs.Vocabulary.{decision_by, begun_events, own_events, run-append, AllLinked, IsDoing, numbered_at, ToldBelow, actor_opens, AllAgree, PreparedPart, home_in, begin_events, answered_events}
+use Rattle.law_headline.proofs.Vocabulary.{operated_events, moved, set_here, set_apart, same_or, numbered_of}
 use Rattle.rep_core.specs.Service.{reply_of}
 use Rattle.txn_core.proofs.Asks.{asks_same}
 use Rattle.law_suite_machine.specs.Events.{happens, run, Event}
+use Rattle.law_server_moves.specs.Moves.{hears}
+use Rattle.law_runs.proofs.Moves.{sent, unstamped, what_of, of_operator}
+use Rattle.law_run_machine.proofs.Asked.{exchanged, hears_as}
+use Rattle.law_run_machine.proofs.Moves.{by_moves}
 use Rattle.law_run_machine.proofs.Sending.{asks_there}
+use Rattle.run_core.specs.Worlds.{with_actor}
 use Rattle.txn_core.specs.Agents.{take, Agent, fixed_of, next_in, next_of, take_in, begin, started, forget, is_idle, has_sense, max_jobs}
 use Rattle.rep_core.specs.declared.request.Request.TheVariants as request
 use Rattle.rep_core.specs.declared.reply.Reply.TheVariants as reply
-use Rattle.rep_core.specs.declared.stamped.Lack.TheVariants as lack
 use Rattle.txn_core.specs.Agents as agents
 use Rattle.run_core.specs.declared.event.Event as happening
 use Rattle.run_core.specs.Worlds as worlds
@@ -26,6 +30,13 @@ by_decision start z w doing = search arith
 module _ (start : Beginning) (z : ℕ) (home : ℕ → ℕ) (decision : Event) (i : ℕ) (w : World) (keeps : (happens start w decision).ready ≡ w.ready) where
   ready_served : (u : ℕ) (asked : Request) (said : Reply) → ((t : ℕ) (parts : List Part) → asked ≡ request.Prepare t parts → u ≡ t → ⊥) → (j : ℕ) → (run start w (moves z home decision i w asked said)).ready j u ≡ w.ready j u
   ready_served u asked said h3 = search arith
+
+  ready_exchanged : (u : ℕ) (asked : Request) (said : Reply) → ((t : ℕ) (parts : List Part) → asked ≡ request.Prepare t parts → u ≡ t → ⊥) → (j : ℕ) → (run start w (exchanged z home decision i w asked said)).ready j u ≡ w.ready j u
+  ready_exchanged u asked said other j =
+      let later = run start w (moves z home decision i w asked said) in
+      ap (λ (w : World). w.ready j u) (run-append start w (moves z home decision i w asked said) (hears z i asked said))
+      ∙ hears_as z i (λ events. (run start later events).ready j u ≡ later.ready j u) asked said (λ _. refl) (λ t exclusive _ _. refl)
+      ∙ ready_served u asked said other j
 
 own_ready : (start : Beginning) (z : ℕ) (before : Option Doing) (taken : agents.Taken) (w : World) → (run start w (own_events z before taken)).ready ≡ w.ready
 own_ready start z before taken w = search arith
@@ -67,15 +78,15 @@ said_so : (a b : Reply) → Replied a ≡ Replied b → a ≡ b
 said_so a b same = cc
 
 -- it leaves its part
-leaves_part : (start : Beginning) (w : World) (i t : ℕ) (part : Part) (o : Option Part) → o ≡ Some part → PreparedPart (run start w (prepare_of i t w o)) t i part
+leaves_part : (start : Beginning) (w : World) (i t : ℕ) (part : Part) (o : Option Part) → o ≡ Some part → PreparedPart (run start w (prepare_of i t w o ++ [])) t i part
 leaves_part start w i t part o is = search arith
 
 -- and nothing at others
-leaves_others : (start : Beginning) (w : World) (i t j : ℕ) (o : Option Part) → (j ≡ i → ⊥) → (run start w (prepare_of i t w o)).ready j t ≡ w.ready j t
+leaves_others : (start : Beginning) (w : World) (i t j : ℕ) (o : Option Part) → (j ≡ i → ⊥) → (run start w (prepare_of i t w o ++ [])).ready j t ≡ w.ready j t
 leaves_others start w i t j o h6 = search arith
 
 prepares_part : (given : Opening) (z : ℕ) (w : World) (doing : Option Doing) (asked : ℕ × Request) (said : Reply) → next_in (fixed_of given) doing ≡ Some asked
-    → PreparesPart z w (run (beginning z given) w (moves z (home_in given) (decision_by z w doing) asked.0 w asked.1 said)) doing (Replied said)
+    → PreparesPart z w (run (beginning z given) w (exchanged z (home_in given) (decision_by z w doing) asked.0 w asked.1 said)) doing (Replied said)
 prepares_part given z w doing asked said is before now left outcome running phase prepared = search (asks_same, asks_there, said_so, leaves_part, part_found, lock_held, leaves_others, arith)
 
 -- whose transaction a request prepares
@@ -104,72 +115,24 @@ module _ (given : Opening) (z : ℕ) (w : World) (world : worlds.World) (linked 
       (take_prepared z w later (fixed_of given) actor.agent response actor.agent.doing asked next (all number actor there) prepares)))
       (λ i u m place at small other. ap (λ ready. ready i u) own ∙ others i u m place at small other)
 
-  answered_next : (number : ℕ) (actor : Actor) (asked : ℕ × Request) (st : State) → actor_at world number ≡ Some actor → next_of (fixed_of given) actor.agent ≡ Some asked → (b : Bool)
-      → AllPrepared z
-      (run start w
-      (answered_events given z w actor
-      (cond b None
-      (Some (record { server = asked.0; request = record { stamp = actor.stamp; value = asked.1 }; reply = answer_of st (record { stamp = actor.stamp; value = asked.1 }) })))))
-      (answered (fixed_of given) world number actor st
-      (cond b None
-      (Some (record {
-        server = asked.0;
-        request = record { stamp = actor.stamp; value = asked.1 };
-        reply = answer_of st
-            (record { stamp = actor.stamp; value = asked.1 });
-      })))).world
-  answered_next number actor asked st there next true = takes w number actor actor.stamp asked (Lacked lack.Full) there next (λ before now left outcome running phase said. absurd cc) (elsewhere_same w w number refl)
-  answered_next number actor asked st there next false =
+  answered_next : (number : ℕ) (actor : Actor) (asked : ℕ × Request) (st : State) → actor_at world number ≡ Some actor → next_of (fixed_of given) actor.agent ≡ Some asked
+      → AllPrepared z (run start w (answered_events given z w actor (Some (what_of asked.0 st (sent actor asked.1))))) (answered (fixed_of given) world number actor st (Some (what_of asked.0 st (sent actor asked.1)))).world
+  answered_next number actor asked st there next =
       let said = reply_of st asked.1 in
       let link = linked number actor there in
-      let events = moves z (home_in given) (decision_by z w actor.agent.doing) asked.0 w asked.1 said in
+      let events = exchanged z (home_in given) (decision_by z w actor.agent.doing) asked.0 w asked.1 said in
       let own = own_events z actor.agent.doing (take (fixed_of given) actor.agent (Replied said)) in
-      subst
-      (λ w. AllPrepared z w (answered (fixed_of given) world number actor st
-      (Some (record {
-        server = asked.0;
-        request = record { stamp = actor.stamp; value = asked.1 };
-        reply = answer_of st
-            (record { stamp = actor.stamp; value = asked.1 });
-      }))).world) (sym (run-append start w events own))
-      (takes (run start w events) number actor (answer_of st (record { stamp = actor.stamp; value = asked.1 })).stamp asked (Replied said) there next (prepares_part given z w actor.agent.doing asked said next)
+      subst (λ w. AllPrepared z w (answered (fixed_of given) world number actor st (Some (what_of asked.0 st (sent actor asked.1)))).world) (sym (run-append start w events own))
+      (takes (run start w events) number actor (answer_of st (sent actor asked.1)).stamp asked (Replied said) there next (prepares_part given z w actor.agent.doing asked said next)
       (λ i u m place at small other.
-      ready_served start z (home_in given) (decision_by z w actor.agent.doing) asked.0 w (by_decision start z w actor.agent.doing) u asked.1 said
+      ready_exchanged start z (home_in given) (decision_by z w actor.agent.doing) asked.0 w (by_decision start z w actor.agent.doing) u asked.1 said
       (asks_own given z w number actor.agent.count actor.agent.doing asked next link.1.doing link.0 u m place at small other) i))
-
-  at_next : (number : ℕ) (actor : Actor) (asked : ℕ × Request) → actor_at world number ≡ Some actor → next_of (fixed_of given) actor.agent ≡ Some asked → (o : Option State)
-      → AllPrepared z (run start w (asked_at_events given z w actor asked o)) (asks_at (fixed_of given) world number actor asked o).world
-  at_next number actor asked there next (Some st) = answered_next number actor asked st there next (is_full st (record { stamp = actor.stamp; value = asked.1 }))
-  at_next number actor asked there next None = all
-
-  asks_next : (number : ℕ) (actor : Actor) → actor_at world number ≡ Some actor → (o : Option (ℕ × Request)) → next_of (fixed_of given) actor.agent ≡ o
-      → AllPrepared z (run start w (asked_events given z w world actor o)) (asks (fixed_of given) world number actor o).world
-  asks_next number actor there (Some asked) next = at_next number actor asked there next (server_at world asked.0)
-  asks_next number actor there None next = all
-
-  step_next : (number : ℕ) (o : Option Actor) → actor_at world number ≡ o → AllPrepared z (run start w (step_events given z w world o)) (steps_once (fixed_of given) world number o).world
-  step_next number (Some actor) there = asks_next number actor there (next_of (fixed_of given) actor.agent) refl
-  step_next number None there = all
-
-  lacks_for_next : (number : ℕ) (actor : Actor) (why : _) → actor_at world number ≡ Some actor → (o : Option (ℕ × Request)) → next_of (fixed_of given) actor.agent ≡ o
-      → AllPrepared z (run start w (lacks_for_events given z actor (Lacked why) o)) (lacks_for (fixed_of given) world number actor (Lacked why) o).world
-  lacks_for_next number actor why there (Some asked) next = takes w number actor actor.stamp asked (Lacked why) there next (λ before now left outcome running phase said. absurd cc) (elsewhere_same w w number refl)
-  lacks_for_next number actor why there None next = all
-
-  lack_next : (number : ℕ) (why : _) (o : Option Actor) → actor_at world number ≡ o → AllPrepared z (run start w (lack_events given z (Lacked why) o)) (lacks (fixed_of given) world number (Lacked why) o).world
-  lack_next number why o h3 = grind (lacks_for_next, arith)
 
   -- ---- the operator prepares nothing
 
-  operated_next : (i : ℕ) (asked : Request) (st : State) → ((t : ℕ) (parts : List Part) → asked ≡ request.Prepare t parts → ⊥) → (b : Bool)
-      → AllPrepared z (run start w (operated_events given z w (cond b None (Some (record { server = i; request = record { stamp = 0; value = asked }; reply = answer_of st (record { stamp = 0; value = asked }) })))))
-      (operated world st (cond b None (Some (record { server = i; request = record { stamp = 0; value = asked }; reply = answer_of st (record { stamp = 0; value = asked }) })))).world
-  operated_next i asked st none true = all
-  operated_next i asked st none false = search (doing_same, ready_served, arith)
-
-  operator_next : (i : ℕ) (asked : Request) → ((t : ℕ) (parts : List Part) → asked ≡ request.Prepare t parts → ⊥) → (o : Option State) → AllPrepared z (run start w (operator_events given z w i asked o)) (operates world i asked o).world
-  operator_next i asked none (Some st) = operated_next i asked st none (is_full st (record { stamp = 0; value = asked }))
-  operator_next i asked none None = all
+  operated_next : (i : ℕ) (asked : Request) (st : State) → ((t : ℕ) (parts : List Part) → asked ≡ request.Prepare t parts → ⊥)
+      → AllPrepared z (run start w (operated_events given z w (Some (what_of i st (unstamped asked))))) (operated world st (Some (what_of i st (unstamped asked)))).world
+  operated_next i asked st none = search (doing_same, ready_served, arith)
 
   -- ---- what changes agents alone
 
@@ -184,27 +147,25 @@ module _ (given : Opening) (z : ℕ) (w : World) (world : worlds.World) (linked 
       by (Transaction caller site ops) = prepared_begin z w (record { t = 64 * agent.count + agent.index; caller = caller; site = site; ops = ops }) (fixed_of given) agent.cache
       by (Sweep server) = tt
 
-  begin_next : (number : ℕ) (job : Job) (o : Option Actor) → actor_at world number ≡ o → AllPrepared z (run start w (begin_events given z job o)) (becomes world number (λ agent. begin (fixed_of given) agent job) o).world
-  begin_next number job (Some actor) there =
+  begin_next : (number : ℕ) (actor : Actor) (job : Job) → actor_at world number ≡ Some actor
+      → AllPrepared z (run start w (begin_events given z job (Some actor))) (with_actor number (record actor { agent = begin (fixed_of given) actor.agent job }) world)
+  begin_next number actor job there =
       let agent = begin (fixed_of given) actor.agent job in
       let same = begun_ready start z actor.agent.doing agent.doing w in
       let later = run start w (begin_events given z job (Some actor)) in
       set_prepared z w later world number actor (record actor { agent = agent }) there linked all
       (doing_same z w later agent.doing (λ txn_run doing i. ap (λ ready. ready i txn_run.task.t) same) (began actor.agent job (all number actor there)))
       (elsewhere_same w later number same)
-  begin_next number job None there = all
-
-  forget_next : (number site : ℕ) (o : Option Actor) → actor_at world number ≡ o → AllPrepared z w (becomes world number (λ agent. forget agent site) o).world
-  forget_next number site (Some actor) there = set_prepared z w w world number actor (record actor { agent = forget actor.agent site }) there linked all (all number actor there) (elsewhere_same w w number refl)
-  forget_next number site None there = all
 
   pub prepared_next : (event : happening.Event) → AllPrepared z (moved given z w world event) (step (fixed_of given) world event).world
-  prepared_next (Begin number job) = begin_next number job (actor_at world number) refl
-  prepared_next (Step number) = step_next number (actor_at world number) refl
-  prepared_next (Crash server) = operator_next server request.Crash (λ t parts is. absurd cc) (server_at world server)
-  prepared_next (Return server) = operator_next server request.Return (λ t parts is. absurd cc) (server_at world server)
-  prepared_next (Forget number site) = forget_next number site (actor_at world number) refl
-  prepared_next (Lack number why) = lack_next number why (actor_at world number) refl
+  prepared_next = by_moves given z w world (λ _ _ events stepped. AllPrepared z (run start w events) stepped.world) (record {
+    nothing = λ _. all;
+    begins = begin_next;
+    forgets = λ number actor site there. set_prepared z w w world number actor (record actor { agent = forget actor.agent site }) there linked all (all number actor there) (elsewhere_same w w number refl);
+    answers = λ number actor asked st there next at room. answered_next number actor asked st there next;
+    lacks = λ event number actor asked why by there next. takes w number actor actor.stamp asked (Lacked why) there next (λ before now left outcome running phase said. absurd cc) (elsewhere_same w w number refl);
+    operates = λ event server asked st by there room. operated_next server asked st (of_operator (λ asked. (t : ℕ) (parts : List Part) → asked ≡ request.Prepare t parts → ⊥) (λ t parts is. absurd cc) (λ t parts is. absurd cc) event server asked by);
+  })
 
 -- at the opening
 pub opens_prepared : (given : Opening) (z : ℕ) → AllPrepared z (begun (beginning z given)) (worlds.opening given)

@@ -30,8 +30,8 @@ pub use Rattle.law_run_machine.proofs.Readied.{Readied, ToldBelow, ready_next}
 pub use Rattle.law_run_machine.proofs.Servers.{servers_open}
 pub use Rattle.law_run_machine.proofs.Turned.{numbered_of, same_or, set_apart, set_here}
 pub use Rattle.law_run_machine.specs.Deciding.{begun_events, change_to, decides_first, decides_on, decides_with, decides_without, decision_by, decision_in, first_of, known_by, own_events, showed_to, written_from}
-pub use Rattle.law_run_machine.specs.Machines.{answered_events, asked_at_events, asked_events, begin_events, events_of, home_in, lack_events, lacks_for_events, machine_from, machine_of, moved, operated_events, operator_events, served_events}
-pub use Rattle.law_run_machine.specs.Machines.{servers_of, step_events}
+pub use Rattle.law_run_machine.specs.Machines.{answered_events, begin_events, events_of, home_in, machine_from, machine_of, moved, operated_events, served_events}
+pub use Rattle.law_run_machine.specs.Machines.{servers_of}
 pub use Rattle.law_run_machine.specs.Owed.{AgentsOwe, AreOwed, Owed, Owes, OwesFirst, OwesKnown, OwesWith, OwesWritten}
 pub use Rattle.law_run_machine.specs.Sides.{KeepSides, KeepsSide}
 pub use Rattle.law_run_quorums.specs.Fairness.{IsFair, PreparedPart}
@@ -45,14 +45,14 @@ pub use Rattle.law_server_moves.specs.Moves.{moves, prepare_of}
 pub use Rattle.law_server_moves.specs.Views.{Shows, hold_of}
 pub use Rattle.law_suite_machine.proofs.Invariant.{Inv}
 pub use Rattle.law_suite_machine.proofs.Knowing.{all_known, still_locked}
-pub use Rattle.law_suite_machine.proofs.Places.{itself}
+pub use Rattle.law_suite_machine.proofs.Places.{at2, itself}
 pub use Rattle.law_suite_machine.proofs.Steps.{all_steps}
 pub use Rattle.law_suite_machine.specs.Conditions.{IsReady, May, Obeys, holds_exclusively}
 pub use Rattle.law_suite_machine.specs.Machine.{Hold, Told, World, begun}
 pub use Rattle.law_suite_machine.specs.Registers.{Beginning, Entry, IsKnown, IsPlain, Known, row}
 pub use Rattle.rep_core.proofs.Members.{Has, contains_from, has_from}
 pub use Rattle.rep_core.specs.Fits.{is_prepared}
-pub use Rattle.rep_core.specs.Serving.{answer_of, is_full}
+pub use Rattle.rep_core.specs.Serving.{answer_of}
 pub use Rattle.rep_core.specs.State.{State, record_of, was_answered}
 pub use Rattle.rep_core.specs.declared.reply.Reply.{Reply}
 pub use Rattle.rep_core.specs.declared.reply.Verdict.{Verdict}
@@ -60,9 +60,9 @@ pub use Rattle.rep_core.specs.declared.request.Part.{Part}
 pub use Rattle.rep_core.specs.declared.request.Request.{Request}
 pub use Rattle.run_core.proofs.Appending.{after-append, decisions_from-append}
 pub use Rattle.run_core.specs.Decisions.{Decided, decided, decisions, decisions_from, task_of}
-pub use Rattle.run_core.specs.Worlds.{Actor, actor_at, answered, asks, asks_at, becomes, lacks, lacks_for, opening, operated, operates, server_at, step, steps_once}
+pub use Rattle.run_core.specs.Worlds.{Actor, actor_at, answered, becomes, opening, operated, server_at, step}
 pub use Rattle.run_core.specs.declared.event.Event.{Event}
-pub use Rattle.run_core.specs.declared.event.Event.TheVariants.{Begin, Crash, Forget, Lack, Return, Step}
+pub use Rattle.run_core.specs.declared.event.Event.TheVariants.{Begin, Step}
 pub use Rattle.sorted_map.specs.SortedMap.{get}
 pub use Rattle.suite_collect.specs.Telling.{holds}
 pub use Rattle.suite_content.specs.Contents.{empty_content, kind_of}

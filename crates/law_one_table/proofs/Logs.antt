@@ -1,17 +1,21 @@
 -- What an event of a world does to the log of a suite's machine: what its decision does, if it decides, and else nothing.
-use Rattle.law_one_table.proofs.Vocabulary.{Opening, State, Doing, Taken, fixed_of, next_in, next_of, Begin, Step, Crash, Return, Forget, Lack, Actor, server_at, actor_at, answered, asks_at, asks, steps_once, step, Decided, to_decide, answer_in}
+use Rattle.law_one_table.proofs.Vocabulary.{Opening, State, Doing, Taken, fixed_of, next_in, next_of, Step, Crash, Return, Actor, server_at, actor_at, Decided, to_decide, answer_in}
 use Rattle.law_one_table.proofs.Vocabulary.{decided_as, decided_at, decided_by, decided, task_of, task_at, Beginning, Entry, World, Event, GiveUp, happens, run, Shows, beginning, decision_by, own_events, servers_of, home_in, begin_events}
-use Rattle.law_one_table.proofs.Vocabulary.{answered_events, asked_at_events, asked_events, step_events, lacks_for_events, lack_events, operator_events, moved, run-append}
-use Rattle.std.proofs.Common.{◌≡◌, ℕ, Bool, true, false, cond, List, Option, Some, None, refl, sym, subst, arith}
+use Rattle.law_one_table.proofs.Vocabulary.{answered_events, moved, run-append, none-some}
+use Rattle.std.proofs.Common.{◌≡◌, ◌∙◌, ℕ, Bool, false, List, ◌++◌, Option, Some, None, refl, sym, ap, subst, arith}
 use Rattle.rep_core.specs.declared.request.Request.{Request}
 use Rattle.rep_core.specs.Service.{reply_of}
-use Rattle.rep_core.specs.Serving.{is_full, answer_of}
+use Rattle.txn_core.specs.Agents.{take}
 use Rattle.txn_core.specs.declared.job.Job.{Job}
-use Rattle.txn_core.specs.declared.response.Response.{Response}
-use Rattle.txn_core.specs.declared.response.Response.TheVariants.{Lacked}
+use Rattle.txn_core.specs.declared.response.Response.TheVariants.{Replied, Lacked}
 use Rattle.txn_core.specs.Laws.{is_decide}
+use Rattle.run_core.specs.Decisions.{task_in}
 use Rattle.run_core.specs.declared.done.Served.{Served}
-use Rattle.law_server_moves.specs.Moves.{moves}
+use Rattle.law_server_moves.specs.Moves.{moves, hears}
+use Rattle.law_runs.proofs.Moves.{sent, unstamped, what_of, operator_asks, of_operator}
+use Rattle.law_run_machine.specs.Machines.{operated_events}
+use Rattle.law_run_machine.proofs.Asked.{hears_as}
+use Rattle.law_run_machine.proofs.Moves.{by_moves}
 use Rattle.rep_core.specs.declared.request.Request.TheVariants as request
 use Rattle.rep_core.specs.declared.reply.Reply.TheVariants as reply
 use Rattle.run_core.specs.declared.event.Event as happening
@@ -56,86 +60,55 @@ module _ (given : Opening) (z : ℕ) (w : World) (world : worlds.World) (shows :
       (run start w (moves z (home_in given) (decision_by z w doing) asked.0 w asked.1 (reply_of st asked.1))).log
   request_log doing asked st h3 h4 b h6 = search arith
 
-  -- ---- a step
+  -- what else comes of it leaves the log
+  answered_same : (actor : Actor) (asked : ℕ × Request) (st : State)
+      → (run start w (answered_events given z w actor (Some (what_of asked.0 st (sent actor asked.1))))).log ≡ (run start w (moves z (home_in given) (decision_by z w actor.agent.doing) asked.0 w asked.1 (reply_of st asked.1))).log
+  answered_same actor asked st =
+      let said = reply_of st asked.1 in
+      let first = moves z (home_in given) (decision_by z w actor.agent.doing) asked.0 w asked.1 said in
+      let hear = hears z asked.0 asked.1 said in
+      let own = own_events z actor.agent.doing (take (fixed_of given) actor.agent (Replied said)) in
+      ap (λ (w : World). w.log) (run-append start w (first ++ hear) own)
+      ∙ own_log start z actor.agent.doing (take (fixed_of given) actor.agent (Replied said)) (run start w (first ++ hear))
+      ∙ ap (λ (w : World). w.log) (run-append start w first hear)
+      ∙ hears_as z asked.0 (λ events. (run start (run start w first) events).log ≡ (run start w first).log) asked.1 said (λ _. refl) (λ t exclusive _ _. refl)
 
-  at_log : (actor : Actor) (asked : ℕ × Request) (st : State) → next_of (fixed_of given) actor.agent ≡ Some asked → server_at world asked.0 ≡ Some st → (full : Bool)
-      → LogIs start (decision_by z w actor.agent.doing) w
-      (decided_by world (task_of actor.agent.doing) (answered (fixed_of given) world 0 actor st
-      (cond full None
-      (Some (record {
-        server = asked.0;
-        request = record { stamp = actor.stamp; value = asked.1 };
-        reply = answer_of st
-            (record { stamp = actor.stamp; value = asked.1 });
-      })))).done.served)
-      (run start w
-      (answered_events given z w actor
-      (cond full None
-      (Some (record {
-        server = asked.0;
-        request = record { stamp = actor.stamp; value = asked.1 };
-        reply = answer_of st
-            (record { stamp = actor.stamp; value = asked.1 });
-      }))))).log
-  at_log actor asked st h3 h4 full = search (own_log, run-append, request_log, arith)
+  answered_log : (actor : Actor) (asked : ℕ × Request) (st : State) → next_of (fixed_of given) actor.agent ≡ Some asked → server_at world asked.0 ≡ Some st
+      → LogIs start (decision_by z w actor.agent.doing) w (decided_by world (task_of actor.agent.doing) (Some (what_of asked.0 st (sent actor asked.1))))
+      (run start w (answered_events given z w actor (Some (what_of asked.0 st (sent actor asked.1))))).log
+  answered_log actor asked st next there =
+      let task = decided_as (task_of actor.agent.doing) (answer_in (reply_of st asked.1)) in
+      subst (λ found. LogIs start (decision_by z w actor.agent.doing) w (decided_at found (to_decide asked.1) task) (run start w (answered_events given z w actor (Some (what_of asked.0 st (sent actor asked.1))))).log) (sym there)
+      (subst (LogIs start (decision_by z w actor.agent.doing) w (decided_at (Some st) (to_decide asked.1) task)) (sym (answered_same actor asked st))
+      (request_log actor.agent.doing asked st next there (is_decide asked.1) refl))
 
-  server_log : (number : ℕ) (actor : Actor) (asked : ℕ × Request) → next_of (fixed_of given) actor.agent ≡ Some asked → (found : Option State) → server_at world asked.0 ≡ found
-      → LogIs start (decision_by z w actor.agent.doing) w (decided_by world (task_of actor.agent.doing) (asks_at (fixed_of given) world number actor asked found).done.served) (run start w (asked_at_events given z w actor asked found)).log
-  server_log number actor asked next None there = refl
-  server_log number actor asked next (Some st) there = at_full (is_full st (record { stamp = actor.stamp; value = asked.1 }))
-    where
-      at_full : (full : Bool) → LogIs start (decision_by z w actor.agent.doing) w
-          (decided_by world (task_of actor.agent.doing) (answered (fixed_of given) world number actor st
-          (cond full None
-          (Some (record {
-            server = asked.0;
-            request = record { stamp = actor.stamp; value = asked.1 };
-            reply = answer_of st (record { stamp = actor.stamp; value = asked.1 });
-          })))).done.served)
-          (run start w
-          (answered_events given z w actor
-          (cond full None
-          (Some (record {
-            server = asked.0;
-            request = record { stamp = actor.stamp; value = asked.1 };
-            reply = answer_of st (record { stamp = actor.stamp; value = asked.1 });
-          }))))).log
-      at_full true = at_log actor asked st next there true
-      at_full false = at_log actor asked st next there false
+  -- ---- any event
 
-  asked_log : (number : ℕ) (actor : Actor) (asked : Option (ℕ × Request)) → next_of (fixed_of given) actor.agent ≡ asked
-      → LogIs start (decision_by z w actor.agent.doing) w (decided_by world (task_of actor.agent.doing) (asks (fixed_of given) world number actor asked).done.served) (run start w (asked_events given z w world actor asked)).log
-  asked_log number actor asked h3 = search (server_log, arith)
+  begin_log : (job : Job) (actor : Actor) → (run start w (begin_events given z job (Some actor))).log ≡ w.log
+  begin_log job actor = search arith
 
-  step_log : (number : ℕ) (found : Option Actor) → LogIs start (decision_of_actor z w found) w
-      (decided_by world (task_at found) (steps_once (fixed_of given) world number found).done.served) (run start w (step_events given z w world found)).log
-  step_log number None = refl
-  step_log number (Some actor) = asked_log number actor (next_of (fixed_of given) actor.agent) refl
+  operated_log : (i : ℕ) (asked : Request) (st : State) → is_decide asked ≡ false → (run start w (operated_events given z w (Some (what_of i st (unstamped asked))))).log ≡ w.log
+  operated_log i asked st h3 = search arith
 
-  -- ---- the other events
+  quiet : (event : happening.Event) (what : Option Served) (log : List Entry) → task_in world event ≡ None → log ≡ w.log → LogIs start (decision_at z w world event) w (decided_by world (task_in world event) what) log
+  quiet event what log none is = subst (λ one. LogIs start (decision_at z w world event) w one log) (sym (ap (λ task. decided_by world task what) none ∙ no_task world what)) is
 
-  lacks_for_log : (actor : Actor) (response : Response) (asked : Option (ℕ × Request)) → (run start w (lacks_for_events given z actor response asked)).log ≡ w.log
-  lacks_for_log actor response asked = search (own_log, arith)
-
-  lack_log : (response : Response) (found : Option Actor) → (run start w (lack_events given z response found)).log ≡ w.log
-  lack_log response found = search (lacks_for_log, arith)
-
-  operator_log : (i : ℕ) (asked : Request) → is_decide asked ≡ false → (found : Option State) → (run start w (operator_events given z w i asked found)).log ≡ w.log
-  operator_log i asked h2 found = search arith
-
-  begin_log : (job : Job) (found : Option Actor) → (run start w (begin_events given z job found)).log ≡ w.log
-  begin_log job found = search arith
-
-  abbrev other_log : happening.Event → Type 0
-  other_log event = LogIs start (decision_at z w world event) w (decided (fixed_of given) world event) (moved given z w world event).log
-
-  quiet : (event : happening.Event) → decided (fixed_of given) world event ≡ None → (moved given z w world event).log ≡ w.log → other_log event
-  quiet event none is = subst (λ one. LogIs start (decision_at z w world event) w one (moved given z w world event).log) (sym none) is
+  operates_none : (event : happening.Event) (server : ℕ) (asked : Request) → operator_asks event ≡ Some (server, asked) → task_in world event ≡ None
+  operates_none (Crash s) server asked is = refl
+  operates_none (Return s) server asked is = refl
+  operates_none other server asked is = absurd (none-some (server, asked) is)
 
   pub event_log : (event : happening.Event) → LogIs start (decision_at z w world event) w (decided (fixed_of given) world event) (moved given z w world event).log
-  event_log (Step number) = step_log number (actor_at world number)
-  event_log (Begin number job) = quiet (Begin number job) (no_task world (step (fixed_of given) world (Begin number job)).done.served) (begin_log job (actor_at world number))
-  event_log (Crash server) = quiet (Crash server) (no_task world (step (fixed_of given) world (Crash server)).done.served) (operator_log server request.Crash refl (server_at world server))
-  event_log (Return server) = quiet (Return server) (no_task world (step (fixed_of given) world (Return server)).done.served) (operator_log server request.Return refl (server_at world server))
-  event_log (Forget number site) = quiet (Forget number site) (no_task world (step (fixed_of given) world (Forget number site)).done.served) refl
-  event_log (Lack number why) = quiet (Lack number why) (no_task world (step (fixed_of given) world (Lack number why)).done.served) (lack_log (Lacked why) (actor_at world number))
+  event_log = by_moves given z w world (λ event _ events stepped. LogIs start (decision_at z w world event) w (decided_by world (task_in world event) stepped.done.served) (run start w events).log) (record {
+    nothing = λ event. refl;
+    begins = λ number actor job there. begin_log job actor;
+    forgets = λ number actor site there. refl;
+    answers = λ number actor asked st there next at room.
+        subst (λ found. LogIs start (decision_of_actor z w found) w (decided_by world (task_at found) (Some (what_of asked.0 st (sent actor asked.1))))
+        (run start w (answered_events given z w actor (Some (what_of asked.0 st (sent actor asked.1))))).log) (sym there)
+        (answered_log actor asked st next at);
+    lacks = λ event number actor asked why by there next. own_log start z actor.agent.doing (take (fixed_of given) actor.agent (Lacked why)) w;
+    operates = λ event server asked st by there room.
+        quiet event (Some (what_of server st (unstamped asked))) (run start w (operated_events given z w (Some (what_of server st (unstamped asked))))).log (operates_none event server asked by)
+        (operated_log server asked st (of_operator (λ asked. is_decide asked ≡ false) refl refl event server asked by));
+  })

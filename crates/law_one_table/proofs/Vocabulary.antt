@@ -14,8 +14,7 @@ pub use Rattle.file_ops.specs.declared.refusal.Refusal.{Refusal}
 pub use Rattle.law_run_machine.proofs.Following.{machines_follow}
 pub use Rattle.law_run_machine.proofs.Joining.{run-append}
 pub use Rattle.law_run_machine.specs.Deciding.{change_to, decides_on, decides_with, decision_by, decision_with, first_of, known_by, own_events, to_write, written_from}
-pub use Rattle.law_run_machine.specs.Machines.{answered_events, asked_at_events, asked_events, begin_events, events_of, history_from, history_of, home_in, lack_events, lacks_for_events, machine_from, machine_of, moved, operator_events, servers_of}
-pub use Rattle.law_run_machine.specs.Machines.{step_events}
+pub use Rattle.law_run_machine.specs.Machines.{answered_events, begin_events, events_of, history_from, history_of, home_in, machine_from, machine_of, moved, servers_of}
 pub use Rattle.law_runs.proofs.Answering.{Knows, always_knows, answers_follow_knowledge}
 pub use Rattle.law_runs.proofs.Executed.{Came, Keeps, answer_as, given_by, set_by}
 pub use Rattle.law_server_moves.specs.Laws.{beginning}
@@ -26,8 +25,8 @@ pub use Rattle.law_suite_machine.specs.Machine.{IsQuorum, World, begun, effect}
 pub use Rattle.law_suite_machine.specs.Registers.{Beginning, Change, Entry, GoesWith, IsBeginning, IsKnown, IsNext, IsPlain, Known, WasContent, WasCopy, WasPrefix, Wrote, changed, content_at, prefix_at, row}
 pub use Rattle.rep_core.specs.State.{State}
 pub use Rattle.run_core.specs.Decisions.{Decided, answer_in, decided, decided_as, decided_at, decided_by, decisions, decisions_from, task_at, task_of, to_decide}
-pub use Rattle.run_core.specs.Worlds.{Actor, actor_at, answered, asks, asks_at, opening, server_at, step, steps_once}
-pub use Rattle.run_core.specs.declared.event.Event.TheVariants.{Begin, Crash, Forget, Lack, Return, Step}
+pub use Rattle.run_core.specs.Worlds.{Actor, actor_at, opening, server_at, step}
+pub use Rattle.run_core.specs.declared.event.Event.TheVariants.{Crash, Return, Step}
 pub use Rattle.sorted_map.specs.SortedMap.{IsOrdered, get}
 pub use Rattle.suite_content.specs.Contents.{empty_content, kind_of}
 pub use Rattle.suite_content.specs.declared.content.Content.{Content}

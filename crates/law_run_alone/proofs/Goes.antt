@@ -4,6 +4,8 @@ use Rattle.law_run_alone.proofs.Vocabulary.{TransactionRun, Doing, Running, stan
 use Rattle.law_one_table.proofs.Running.{machine_one}
 use Rattle.law_suite_machine.specs.Machine.{World}
 use Rattle.law_run_machine.specs.Machines.{moved}
+use Rattle.law_run_machine.proofs.Following.{event_comes}
+use Rattle.law_headline.proofs.Together.{goes_on}
 use Rattle.rep_core.specs.declared.reply.Verdict.TheVariants as verdict
 use Rattle.run_core.specs.Worlds as worlds
 use Rattle.law_run_alone.proofs.Own.{IsOwnAt, up_where}
@@ -98,7 +100,10 @@ module _ (given : Opening) (up : ℕ → Bool) (t turn : ℕ) where
       unswept = asks_servers fixed (λ _. Unswept t) (λ _ asked. is_resolve asked ≡ false) (λ _. stays_unswept t) w g.unswept event (no_resolve event calm);
       machines = next_machines given g.machines w event;
       carried = carried_next given g.can.c0 g.machines w event later g.carried;
-      stand = λ z. event_stands given up t turn w z (g.machines z) (g.stand z) event calm;
+      stand = λ z.
+          let now = (g.carried.whole z).together in
+          let keeps = (goes_on given z (g.machines z) w now event (g.carried.owes z).0).0 in
+          event_stands given up t turn w z (g.machines z) now.inv (g.stand z) event (event_comes given z (g.machines z) w now.inv now.shows now.all event keeps).obeys calm;
       all = g.all ++ event ∷ [];
       run_is = ap (λ w. (step fixed w event).world) g.run_is ∙ sym (run_more given g.all event);
       machines_are = λ z.

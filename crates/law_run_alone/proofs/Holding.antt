@@ -1,12 +1,15 @@
 -- As long as one transaction alone asks servers and none crashes, the locks that it was told of stand, until it tells how it ended.
-use Rattle.law_run_alone.proofs.Vocabulary.{◌≡◌, inl, inr, ℕ, Bool, true, false, cond, List, [], ◌∷◌, ◌++◌, Option, Some, None, refl, sym, ap, subst, ◌∙◌, slice_get, slice_set, Opening, Request, Stamped, State, reply_of, is_full, answer_of, arith}
-use Rattle.law_run_alone.proofs.Vocabulary.{Job, Response, Replied, Lacked, Ending, Reply, Cache, Suites, suite_of, Fixed, Task, Phase, Gathering, Fetching, Widening, Preparing, Deciding, Finishing, Doing, Running, RunningSweep, tell_end}
-use Rattle.law_run_alone.proofs.Vocabulary.{after_response, request_in, Agent, fixed_of, next_in, next_of, left, take_in, take, begin, forget, asks_same, asked_as, fetched_as, Event, Begin, Step, Crash, Return, Forget, Actor, server_at, actor_at}
-use Rattle.law_run_alone.proofs.Vocabulary.{serve, answered, becomes, asks_at, asks, steps_once, lacks_for, lacks, operated, operates, step, begins_now, at_puts, puts_in, moves, beginning, decision_by, own_events, Lack as Why}
-use Rattle.run_core.specs.declared.event.Event.TheVariants.{Lack}
+use Rattle.law_run_alone.proofs.Vocabulary.{◌≡◌, inl, inr, ℕ, Bool, false, List, [], ◌∷◌, ◌++◌, Option, Some, None, refl, sym, ap, subst, ◌∙◌, slice_get, slice_set, same_Some, none-some, Opening, Request, State, reply_of, answer_of, arith}
+use Rattle.law_run_alone.proofs.Vocabulary.{Response, Replied, Lacked, Ending, Cache, Suites, suite_of, Fixed, Task, Phase, Gathering, Fetching, Widening, Preparing, Deciding, Finishing, Doing, Running, RunningSweep, tell_end}
+use Rattle.law_run_alone.proofs.Vocabulary.{after_response, request_in, Agent, fixed_of, next_in, next_of, left, take_in, take, begin, forget, asks_same, asked_as, fetched_as, Event, Crash, Return, Actor, actor_at}
+use Rattle.law_run_alone.proofs.Vocabulary.{step, begins_now, at_puts, puts_in, Inv, beginning, decision_by, own_events}
 use Rattle.law_suite_machine.specs.Machine.{World}
 use Rattle.law_suite_machine.specs.Events.{run}
-use Rattle.law_run_machine.specs.Machines.{moved, home_in, begin_events, answered_events, asked_at_events, asked_events, step_events, lacks_for_events, lack_events, operated_events, operator_events}
+use Rattle.law_suite_machine.specs.Conditions.{Obeys}
+use Rattle.law_run_machine.specs.Machines.{moved, home_in, begin_events, response_events, answered_events, operated_events, events_of}
+use Rattle.law_runs.proofs.Moves.{sent, unstamped, what_of, operator_asks}
+use Rattle.law_run_machine.proofs.Asked.{exchanged}
+use Rattle.law_run_machine.proofs.Moves.{by_moves}
 use Rattle.rep_core.specs.declared.request.Request.TheVariants as request
 use Rattle.rep_core.specs.declared.reply.Verdict as replied
 use Rattle.run_core.specs.Worlds as worlds
@@ -14,7 +17,7 @@ use Rattle.law_suite_machine.specs.Events as machine
 use Rattle.law_run_alone.proofs.Turns.{with_job}
 use Rattle.law_run_alone.proofs.Walks.{begun_same}
 use Rattle.law_run_alone.proofs.Owns.{IsCalm}
-use Rattle.law_run_alone.proofs.Standing.{Stands, AllSpare, all_spare-append, stands_all, spare_begun, spare_own, spare_decision, releases, spare_moves}
+use Rattle.law_run_alone.proofs.Standing.{Stands, AllSpare, all_spare-append, stands_all, spare_begun, spare_own, spare_decision, releases, spare_moves, spare_exchanged}
 
 -- ---- an agent
 
@@ -67,120 +70,70 @@ module _ (fixed : Fixed) (agent : Agent) (response : Response) (asked : ℕ × R
 abbrev pub AtStands : World → worlds.World → ℕ → ℕ → Type 0
 AtStands w world t turn = (actor : Actor) → actor_at world turn ≡ Some actor → DoingStands w t actor.agent.doing
 
-module _ (given : Opening) (up : ℕ → Bool) (t turn : ℕ) (world : worlds.World) (z : ℕ) (w : World) (stands : AtStands w world t turn) where
+module _ (given : Opening) (up : ℕ → Bool) (t turn : ℕ) (world : worlds.World) (z : ℕ) (w : World) (inv : Inv (beginning z given) w) (stands : AtStands w world t turn) where
   abbrev fixed : Fixed
   fixed = fixed_of given
 
   abbrev after : List machine.Event → World
   after events = run (beginning z given) w events
 
-  spared : (events : List machine.Event) → AllSpare events → (doing : Option Doing) → DoingStands w t doing → DoingStands (after events) t doing
-  spared events spares = doing_later w (after events) t (stands_all (beginning z given) w events t spares)
+  spared : (events : List machine.Event) → Obeys (beginning z given) w events → AllSpare events → (doing : Option Doing) → DoingStands w t doing → DoingStands (after events) t doing
+  spared events may spares = doing_later w (after events) t (stands_all (beginning z given) w inv events may t spares)
 
   -- another agent stands at a number, with the same job
-  same_stands : (events : List machine.Event) → AllSpare events → (i : ℕ) (actor new : Actor) → actor_at world i ≡ Some actor → (i ≡ turn → new.agent.doing ≡ actor.agent.doing)
+  same_stands : (events : List machine.Event) → Obeys (beginning z given) w events → AllSpare events → (i : ℕ) (actor new : Actor) → actor_at world i ≡ Some actor → (i ≡ turn → new.agent.doing ≡ actor.agent.doing)
       → (found : Actor) → slice_get (slice_set world.agents i new) turn ≡ Some found → DoingStands (after events) t found.agent.doing
-  same_stands events spares i actor new is same found there =
+  same_stands events may spares i actor new is same found there =
       elim (at_puts (slice_get world.agents) (slice_get (slice_set world.agents i new)) i actor new (puts_in world.agents i actor new is) turn found there) [
         | inl here ↦
             subst (DoingStands (after events) t) (sym (ap (λ (actor : Actor). actor.agent.doing) here.is ∙ same (sym here.at)))
-            (spared events spares actor.agent.doing (stands actor (ap (actor_at world) here.at ∙ is)))
-        | inr elsewhere ↦ spared events spares found.agent.doing (stands found elsewhere.was)
+            (spared events may spares actor.agent.doing (stands actor (ap (actor_at world) here.at ∙ is)))
+        | inr elsewhere ↦ spared events may spares found.agent.doing (stands found elsewhere.was)
       ]
 
   -- an agent took a response of what it asked
-  took_at : (events : List machine.Event) (i : ℕ) (actor : Actor) (asked : ℕ × Request) (response : Response) (stamp : ℕ) → actor_at world i ≡ Some actor
+  took_at : (events : List machine.Event) → Obeys (beginning z given) w events → (i : ℕ) (actor : Actor) (asked : ℕ × Request) (response : Response) (stamp : ℕ) → actor_at world i ≡ Some actor
       → next_of fixed actor.agent ≡ Some asked → (releases asked.1 ≡ false → AllSpare events)
       → ((i ≡ turn → ⊥) → AllSpare events)
       → (found : Actor) → slice_get (slice_set world.agents i (worlds.moved actor stamp (take fixed actor.agent response))) turn ≡ Some found → DoingStands (after events) t found.agent.doing
-  took_at events i actor asked response stamp is next spares apart found there =
+  took_at events may i actor asked response stamp is next spares apart found there =
       let new = worlds.moved actor stamp (take fixed actor.agent response) in
       elim (at_puts (slice_get world.agents) (slice_get (slice_set world.agents i new)) i actor new (puts_in world.agents i actor new is) turn found there) [
         | inl here ↦
             subst (λ (actor : Actor). DoingStands (after events) t actor.agent.doing) (sym here.is)
             (subst (λ asked. DoingStands (after events) t (take_in fixed actor.agent response actor.agent.doing asked).agent.doing) (sym next)
-            (took_stands fixed actor.agent response asked w (after events) t (λ none. stands_all (beginning z given) w events t (spares none)) actor.agent.doing refl next (stands actor (ap (actor_at world) here.at ∙ is))))
-        | inr elsewhere ↦ spared events (apart (λ at. elsewhere.apart (sym at))) found.agent.doing (stands found elsewhere.was)
+            (took_stands fixed actor.agent response asked w (after events) t (λ none. stands_all (beginning z given) w inv events may t (spares none)) actor.agent.doing refl next
+            (stands actor (ap (actor_at world) here.at ∙ is))))
+        | inr elsewhere ↦ spared events may (apart (λ at. elsewhere.apart (sym at))) found.agent.doing (stands found elsewhere.was)
       ]
 
-  -- ---- each event
+  answered_spares : (actor : Actor) (asked : ℕ × Request) (st : State) → releases asked.1 ≡ false → AllSpare (answered_events given z w actor (Some (what_of asked.0 st (sent actor asked.1))))
+  answered_spares actor asked st none =
+      all_spare-append (exchanged z (home_in given) (decision_by z w actor.agent.doing) asked.0 w asked.1 (reply_of st asked.1)) (own_events z actor.agent.doing (take fixed actor.agent (Replied (reply_of st asked.1))))
+      (spare_exchanged z (home_in given) (decision_by z w actor.agent.doing) (spare_decision z w actor.agent.doing) asked.0 w asked.1 (reply_of st asked.1) none)
+      (spare_own z actor.agent.doing (take fixed actor.agent (Replied (reply_of st asked.1))))
 
-  begin_stands : (i : ℕ) (job : Job) (found : Option Actor) → actor_at world i ≡ found → (i ≡ turn → with_job job (begins_now fixed i job found) ≡ None)
-      → AtStands (after (begin_events given z job found)) (becomes world i (λ agent. begin fixed agent job) found).world t turn
-  begin_stands i job None is none = λ found there. stands found there
-  begin_stands i job (Some actor) is none = λ found.
-      same_stands (begin_events given z job (Some actor)) (spare_begun z actor.agent.doing (begin fixed actor.agent job).doing) i actor
-      (record actor { agent = begin fixed actor.agent job }) is (λ at. begun_same given i job actor (none at)) found
-
-  forget_stands : (i site : ℕ) (found : Option Actor) → actor_at world i ≡ found → AtStands w (becomes world i (λ agent. forget agent site) found).world t turn
-  forget_stands i site None is = λ found there. stands found there
-  forget_stands i site (Some actor) is = λ found. same_stands [] tt i actor (record actor { agent = forget actor.agent site }) is (λ at. refl) found
-
-  operator_stands : (server : ℕ) (asked : Request) → releases asked ≡ false → (found : Option State) → AtStands (after (operator_events given z w server asked found)) (operates world server asked found).world t turn
-  operator_stands server asked none None = λ found there. stands found there
-  operator_stands server asked none (Some st) =
-      elim (is_full st stamped) as (λ b. AtStands (after (operated_events given z w (cond b None (Some (record { server = server; request = stamped; reply = answer_of st stamped })))))
-      (operated world st (cond b None (Some (record { server = server; request = stamped; reply = answer_of st stamped })))).world t turn) [
-        | true ↦ λ found there. stands found there
-        | false ↦ λ found there. search (spared, spare_moves, arith)
-      ]
-    where
-      stamped : Stamped Request
-      stamped = record { stamp = 0; value = asked }
-
-  served_stands : (i : ℕ) (actor : Actor) (asked : ℕ × Request) (st : State) → actor_at world i ≡ Some actor → next_of fixed actor.agent ≡ Some asked → i ≡ turn
-      → AtStands (after (answered_events given z w actor (serve asked.0 st (record { stamp = actor.stamp; value = asked.1 }))))
-      (answered fixed world i actor st (serve asked.0 st (record { stamp = actor.stamp; value = asked.1 }))).world t turn
-  served_stands i actor asked st is next turns =
-      elim (is_full st stamped) as (λ b. AtStands (after (answered_events given z w actor (cond b None (Some (record { server = asked.0; request = stamped; reply = answer_of st stamped })))))
-      (answered fixed world i actor st (cond b None (Some (record { server = asked.0; request = stamped; reply = answer_of st stamped })))).world t turn) [
-        | true ↦ λ found. search (took_at, spare_own, arith)
-        | false ↦ λ found. took_at (first ++ own) i actor asked (Replied said) (answer_of st stamped).stamp is next
-            (λ none. all_spare-append first own (spare_moves z (home_in given) (decision_by z w actor.agent.doing)
-            (spare_decision z w actor.agent.doing) asked.0 w asked.1 said none) (spare_own z actor.agent.doing (take fixed actor.agent (Replied said))))
-            (λ apart. absurd (apart turns)) found
-      ]
-    where
-      stamped : Stamped Request
-      stamped = record { stamp = actor.stamp; value = asked.1 }
-
-      said : Reply
-      said = reply_of st asked.1
-
-      first : List machine.Event
-      first = moves z (home_in given) (decision_by z w actor.agent.doing) asked.0 w asked.1 said
-
-      own : List machine.Event
-      own = own_events z actor.agent.doing (take fixed actor.agent (Replied said))
-
-  at_stands : (i : ℕ) (actor : Actor) (asked : ℕ × Request) → actor_at world i ≡ Some actor → next_of fixed actor.agent ≡ Some asked → i ≡ turn → (found : Option State)
-      → AtStands (after (asked_at_events given z w actor asked found)) (asks_at fixed world i actor asked found).world t turn
-  at_stands i actor asked is next turns None = λ found there. stands found there
-  at_stands i actor asked is next turns (Some st) = served_stands i actor asked st is next turns
-
-  asks_stands : (i : ℕ) → IsCalm given up turn world (Step i) → (actor : Actor) → actor_at world i ≡ Some actor → (asked : Option (ℕ × Request))
-      → next_of fixed actor.agent ≡ asked → AtStands (after (asked_events given z w world actor asked)) (asks fixed world i actor asked).world t turn
-  asks_stands i calm actor is None next = λ found there. stands found there
-  asks_stands i calm actor is (Some asked) next = at_stands i actor asked is next (calm actor asked is next) (server_at world asked.0)
-
-  step_stands : (i : ℕ) → IsCalm given up turn world (Step i) → (found : Option Actor) → actor_at world i ≡ found → AtStands (after (step_events given z w world found)) (steps_once fixed world i found).world t turn
-  step_stands i calm None is = λ found there. stands found there
-  step_stands i calm (Some actor) is = asks_stands i calm actor is (next_of fixed actor.agent) refl
-
-  lacks_stands : (i : ℕ) (why : Why) (actor : Actor) → actor_at world i ≡ Some actor → (asked : Option (ℕ × Request)) → next_of fixed actor.agent ≡ asked
-      → AtStands (after (lacks_for_events given z actor (Lacked why) asked)) (lacks_for fixed world i actor (Lacked why) asked).world t turn
-  lacks_stands i why actor is None next = λ found there. stands found there
-  lacks_stands i why actor is (Some asked) next = search (took_at, spare_own, arith)
-
-  lack_stands : (i : ℕ) (why : Why) (found : Option Actor) → actor_at world i ≡ found → AtStands (after (lack_events given z (Lacked why) found)) (lacks fixed world i (Lacked why) found).world t turn
-  lack_stands i why None is = λ found there. stands found there
-  lack_stands i why (Some actor) is = lacks_stands i why actor is (next_of fixed actor.agent) refl
+  -- what the operator asks in calm takes no lock away
+  calm_operator : (event : Event) (server : ℕ) (asked : Request) → operator_asks event ≡ Some (server, asked) → IsCalm given up turn world event → releases asked ≡ false
+  calm_operator (Crash s) server asked is calm = absurd calm
+  calm_operator (Return s) server asked is calm = ap (λ (asked : ℕ × Request). releases asked.1) (sym (same_Some (s, request.Return) (server, asked) is))
+  calm_operator other server asked is calm = absurd (none-some (server, asked) is)
 
   -- every calm event
-  pub event_stands : (event : Event) → IsCalm given up turn world event → AtStands (moved given z w world event) (step fixed world event).world t turn
-  event_stands (Begin i job) calm = begin_stands i job (actor_at world i) refl calm
-  event_stands (Step i) calm = step_stands i calm (actor_at world i) refl
-  event_stands (Crash server) calm = absurd calm
-  event_stands (Return server) calm = operator_stands server request.Return refl (server_at world server)
-  event_stands (Forget i site) calm = forget_stands i site (actor_at world i) refl
-  event_stands (Lack i why) calm = lack_stands i why (actor_at world i) refl
+  pub event_stands : (event : Event) → Obeys (beginning z given) w (events_of given z w world event) → IsCalm given up turn world event → AtStands (moved given z w world event) (step fixed world event).world t turn
+  event_stands = by_moves given z w world (λ event _ events stepped. Obeys (beginning z given) w events → IsCalm given up turn world event → AtStands (after events) stepped.world t turn) (record {
+    nothing = λ event may calm. stands;
+    begins = λ number actor job there may calm.
+        same_stands (begin_events given z job (Some actor)) may (spare_begun z actor.agent.doing (begin fixed actor.agent job).doing) number actor (record actor { agent = begin fixed actor.agent job }) there
+        (λ at. begun_same given number job actor (subst (λ found. with_job job (begins_now fixed number job found) ≡ None) there (calm at)));
+    forgets = λ number actor site there may calm. same_stands [] may tt number actor (record actor { agent = forget actor.agent site }) there (λ at. refl);
+    answers = λ number actor asked st there next at room may calm.
+        took_at (answered_events given z w actor (Some (what_of asked.0 st (sent actor asked.1)))) may number actor asked (Replied (reply_of st asked.1)) (answer_of st (sent actor asked.1)).stamp there next
+        (answered_spares actor asked st) (λ apart. absurd (apart (calm actor asked there next)));
+    lacks = λ event number actor asked why by there next may calm.
+        let spares = spare_own z actor.agent.doing (take fixed actor.agent (Lacked why)) in
+        took_at (response_events given z actor (Lacked why)) may number actor asked (Lacked why) actor.stamp there next (λ none. spares) (λ apart. spares);
+    operates = λ event server asked st by there room may calm found there'.
+        spared (operated_events given z w (Some (what_of server st (unstamped asked)))) may
+        (spare_moves z (home_in given) (decision_by z w None) (spare_decision z w None) server w asked (reply_of st asked) (calm_operator event server asked by calm)) found.agent.doing (stands found there');
+  })

@@ -7,11 +7,11 @@ use Rattle.std.specs.List.Sorted.{IsStrictlySortedBy}
 
 -- ---- locks
 
--- a lock that the machine has
+-- a lock that the machine has, an exclusive one where that is wanted
 pub record HasLock (locks : List Lock) (t z : ℕ) (exclusive : Bool) : Type 0 where
   pub lock : Lock
   pub is : lock_at t z locks ≡ Some lock
-  pub mode : is_exclusive lock.mode ≡ exclusive
+  pub mode : exclusive ≡ true → is_exclusive lock.mode ≡ true
 
 pub held_lock : (o : Option Lock) (h : Hold) → hold_of o ≡ Some h → (lock : Lock) × (o ≡ Some lock) × (is_exclusive lock.mode ≡ h.exclusive)
 held_lock o h h2 = search arith
@@ -20,7 +20,7 @@ pub has_found : (locks : List Lock) (t z : ℕ) (exclusive : Bool) → HasLock l
 has_found locks t z exclusive has = any_find (is_own t z) locks ∙ ap is_some has.is
 
 -- it serves as it was told of
-pub serves_as : (mode : LockMode) (b : Bool) → is_exclusive mode ≡ b → serves mode (cond b Exclusive Shared) ≡ true
+pub serves_as : (mode : LockMode) (b : Bool) → (b ≡ true → is_exclusive mode ≡ true) → serves mode (cond b Exclusive Shared) ≡ true
 serves_as mode b h2 = search arith
 
 -- ---- parts

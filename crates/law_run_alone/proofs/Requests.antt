@@ -89,7 +89,7 @@ module _ (given : Opening) (c0 : IsValid given.c0) (world : worlds.World) (event
           let shows = ((now.whole z).together.shows.at server).lock t in
           let st_is = server_there given world server st at in
           let held = held_lock (lock_at t z st.locks) stood.0 (ap (λ (st : State). hold_of (lock_at t z st.locks)) (sym st_is) ∙ sym shows ∙ stood.1) in
-          record { lock = held.0; is = held.1; mode = held.2 ∙ stood.2 }
+          record { lock = held.0; is = held.1; mode = λ wanted. held.2 ∙ stood.2 wanted }
 
   -- ---- gathering and widening
 
@@ -168,8 +168,8 @@ module _ (given : Opening) (c0 : IsValid given.c0) (world : worlds.World) (event
       lock : HasLock st.locks t z (conditions.is_exclusive ((machines z).told server t))
       lock = lock_there z server st (stood z) at ((agreed z).held server ∙ ap (λ o. holds Shared (told_in o) server) found ∙ held)
 
-      exclusively : is_exclusive lock.lock.mode ≡ holds_exclusively suite server
-      exclusively = lock.mode ∙ (agreed z).exclusive server ∙ ap (λ o. holds Exclusive (told_in o) server) found
+      exclusively : holds_exclusively suite server ≡ true → is_exclusive lock.lock.mode ≡ true
+      exclusively wanted = lock.mode ((agreed z).exclusive server ∙ ap (λ o. holds Exclusive (told_in o) server) found ∙ wanted)
 
       part_locked : has_lock_for t st.locks part ≡ true
       part_locked =

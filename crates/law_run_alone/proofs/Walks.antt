@@ -1,10 +1,9 @@
 -- What holds of all servers, and of what an agent does, event by event.
-use Rattle.law_run_alone.proofs.Vocabulary.{◌≡◌, inl, inr, ⊎_elim, ℕ, true, false, cond, List, Option, Some, None, refl, sym, ap, subst, ◌∙◌, slice_get, slice_set, Opening, Request, Stamped, State, arith, reply_of, is_full, served, answer_of, Job}
-use Rattle.law_run_alone.proofs.Vocabulary.{Response, Replied, Lacked, Fixed, Doing, Agent, fixed_of, next_of, take_in, take, begin, forget, Event, Begin, Step, Crash, Return, Forget, Actor, World, server_at, actor_at, with_actor, serve, moved}
-use Rattle.law_run_alone.proofs.Vocabulary.{answered, becomes, asks_at, asks, steps_once, lacks_for, lacks, operated, operates, step, begins_now, same_or, at_puts, step_is, puts_in, begins_job, Lack as Why}
-use Rattle.run_core.specs.declared.event.Event.TheVariants.{Lack}
+use Rattle.law_run_alone.proofs.Vocabulary.{◌≡◌, inl, inr, ⊎_elim, ℕ, false, List, Option, Some, None, refl, sym, ap, subst, ◌∙◌, slice_get, slice_set, none-some, same_Some, Opening, Request, Stamped, State, arith, reply_of, is_full, served, answer_of, Job}
+use Rattle.law_run_alone.proofs.Vocabulary.{Response, Replied, Lacked, Fixed, Doing, fixed_of, next_of, take_in, take, begin, forget, Event, Begin, Step, Crash, Return, Actor, World, server_at, actor_at, with_actor, moved}
+use Rattle.law_run_alone.proofs.Vocabulary.{step, begins_now, same_or, at_puts, step_is, puts_in, begins_job}
+use Rattle.law_runs.proofs.Moves.{sent, unstamped, operator_asks, by_moves}
 use Rattle.rep_core.specs.declared.request.Request.TheVariants as request
-use Rattle.rep_core.specs.declared.stamped.Lack.TheVariants as lack
 use Rattle.rep_core.specs.Serving as serving
 use Rattle.law_run_alone.proofs.Turns.{doing_of, doing_at, with_job}
 
@@ -31,49 +30,20 @@ module _ (fixed : Fixed) (Q : ℕ → State → Type 0) (C : ℕ → Request →
     | inr there ↦ all s' st' there.was
   ]
 
-  operator_all : (server : ℕ) (asked : Request) → C server asked → (found : Option State) → server_at world server ≡ found → AllAt Q (operates world server asked found).world
-  operator_all server asked of_kind None is = all
-  operator_all server asked of_kind (Some st) is =
-      elim (is_full st stamped) as (λ b. is_full st stamped ≡ b → AllAt Q (operated world st (cond b None (Some (record { server = server; request = stamped; reply = answer_of st stamped })))).world) [
-        | true ↦ λ _. all
-        | false ↦ λ room. all_served server st stamped is room of_kind
-      ] refl
-    where
-      stamped : Stamped Request
-      stamped = record { stamp = 0; value = asked }
-
-  answered_all : (i : ℕ) (actor : Actor) (asked : ℕ × Request) (st : State) → C asked.0 asked.1 → server_at world asked.0 ≡ Some st
-      → AllAt Q (answered fixed world i actor st (serve asked.0 st (record { stamp = actor.stamp; value = asked.1 }))).world
-  answered_all i actor asked st of_kind at =
-      elim (is_full st stamped) as (λ b. is_full st stamped ≡ b → AllAt Q (answered fixed world i actor st (cond b None (Some (record { server = asked.0; request = stamped; reply = answer_of st stamped })))).world) [
-        | true ↦ λ _. all
-        | false ↦ λ room. all_served asked.0 st stamped at room of_kind
-      ] refl
-    where
-      stamped : Stamped Request
-      stamped = record { stamp = actor.stamp; value = asked.1 }
-
-  asks_all : (i : ℕ) (actor : Actor) (asked : ℕ × Request) → C asked.0 asked.1 → (found : Option State) → server_at world asked.0 ≡ found → AllAt Q (asks_at fixed world i actor asked found).world
-  asks_all i actor asked h3 found h5 = search (answered_all, arith)
-
-  steps_all : (i : ℕ) → MayAsk fixed C world (Step i) → (actor : Actor) → actor_at world i ≡ Some actor → (asked : Option (ℕ × Request)) → next_of fixed actor.agent ≡ asked → AllAt Q (asks fixed world i actor asked).world
-  steps_all i may actor is None next = all
-  steps_all i may actor is (Some asked) next = asks_all i actor asked (may actor asked is next) (server_at world asked.0) refl
-
-  step_all : (i : ℕ) → MayAsk fixed C world (Step i) → (found : Option Actor) → actor_at world i ≡ found → AllAt Q (steps_once fixed world i found).world
-  step_all i h1 found h3 = search (steps_all, arith)
-
-  becomes_all : (i : ℕ) (change : Agent → Agent) (found : Option Actor) → AllAt Q (becomes world i change found).world
-  becomes_all i change found = search arith
-
-  lacks_all : (i : ℕ) (why : Why) (actor : Actor) (asked : Option (ℕ × Request)) → AllAt Q (lacks_for fixed world i actor (Lacked why) asked).world
-  lacks_all i why actor asked = search arith
-
-  lack_all : (i : ℕ) (why : Why) (found : Option Actor) → AllAt Q (lacks fixed world i (Lacked why) found).world
-  lack_all i why found = search (lacks_all, arith)
+  operator_kind : (event : Event) (server : ℕ) (asked : Request) → operator_asks event ≡ Some (server, asked) → MayAsk fixed C world event → C server asked
+  operator_kind (Crash s) server asked is may = subst (λ (asked : ℕ × Request). C asked.0 asked.1) (same_Some (s, request.Crash) (server, asked) is) may
+  operator_kind (Return s) server asked is may = subst (λ (asked : ℕ × Request). C asked.0 asked.1) (same_Some (s, request.Return) (server, asked) is) may
+  operator_kind other server asked is may = absurd (none-some (server, asked) is)
 
   pub asks_servers : (event : Event) → MayAsk fixed C world event → AllAt Q (step fixed world event).world
-  asks_servers event h1 = search (becomes_all, step_all, operator_all, lack_all, arith)
+  asks_servers = by_moves fixed world (λ event stepped. MayAsk fixed C world event → AllAt Q stepped.world) (record {
+    nothing = λ event _. all;
+    begins = λ number actor job there _. all;
+    forgets = λ number actor site there _. all;
+    answers = λ number actor asked st there next at room may. all_served asked.0 st (sent actor asked.1) at room (may actor asked there next);
+    lacks = λ event number actor asked why by there next _. all;
+    operates = λ event server asked st by there room may. all_served server st (unstamped asked) there room (operator_kind event server asked by may);
+  })
 
 -- the same where all requests that agents now ask are of that kind
 pub event_servers : (fixed : Fixed) (Q : State → Type 0) (C : Request → Type 0) → ((st : State) (asked : Stamped Request) → C asked.value → Q st → Q (serving.step st asked)) → C request.Crash → C request.Return → (world : World)
@@ -114,51 +84,21 @@ module _ (given : Opening) (P : Option Doing → Type 0) (j : ℕ) (world : Worl
   same_doing : (i : ℕ) (actor new : Actor) → actor_at world i ≡ Some actor → (i ≡ j → new.agent.doing ≡ actor.agent.doing) → P (doing_at (with_actor i new world) j)
   same_doing i actor new is same = put_doing world.servers i actor new is (λ at. subst P (ap (doing_at world) (sym at) ∙ ap doing_of is ∙ sym (same at)) now)
 
-  begin_doing : (i : ℕ) (job : Job) (found : Option Actor) → actor_at world i ≡ found → (i ≡ j → with_job job (begins_now (fixed_of given) i job found) ≡ None)
-      → P (doing_at (becomes world i (λ agent. begin (fixed_of given) agent job) found).world j)
-  begin_doing i job found h3 h4 = search (same_doing, begun_same, arith)
-
-  forget_doing : (i site : ℕ) (found : Option Actor) → actor_at world i ≡ found → P (doing_at (becomes world i (λ agent. forget agent site) found).world j)
-  forget_doing i site found h3 = search (same_doing, arith)
-
-  operator_doing : (server : ℕ) (asked : Request) (found : Option State) → P (doing_at (operates world server asked found).world j)
-  operator_doing server asked found = search arith
-
   took_doing : (servers : List State) (i : ℕ) (actor : Actor) (asked : ℕ × Request) (response : Response) (stamp : ℕ) → actor_at world i ≡ Some actor → next_of (fixed_of given) actor.agent ≡ Some asked
       → P (doing_at (with_actor i (moved actor stamp (take (fixed_of given) actor.agent response)) (record world { servers = servers })) j)
   took_doing servers i actor asked response stamp is next =
       put_doing servers i actor (moved actor stamp (take (fixed_of given) actor.agent response)) is
       (λ at. subst (λ asked. P (take_in (fixed_of given) actor.agent response actor.agent.doing asked).agent.doing) (sym next) (takes actor asked response (ap (actor_at world) (sym at) ∙ is) next))
 
-  step_doing : (i : ℕ) (found : Option Actor) → actor_at world i ≡ found → P (doing_at (steps_once (fixed_of given) world i found).world j)
-  step_doing i None is = now
-  step_doing i (Some actor) is = of (next_of (fixed_of given) actor.agent) refl
-    where
-      at : (asked : ℕ × Request) → next_of (fixed_of given) actor.agent ≡ Some asked → (found : Option State) → P (doing_at (asks_at (fixed_of given) world i actor asked found).world j)
-      at asked next None = now
-      at asked next (Some st) =
-          let stamped : Stamped Request = record { stamp = actor.stamp; value = asked.1 } in
-          elim (is_full st stamped) as (λ b. P (doing_at (answered (fixed_of given) world i actor st (cond b None (Some (record { server = asked.0; request = stamped; reply = answer_of st stamped })))).world j)) [
-            | true ↦ took_doing world.servers i actor asked (Lacked lack.Full) actor.stamp is next
-            | false ↦ took_doing (slice_set world.servers asked.0 (served st stamped)) i actor asked (Replied (reply_of st asked.1)) (answer_of st stamped).stamp is next
-          ]
-
-      of : (asked : Option (ℕ × Request)) → next_of (fixed_of given) actor.agent ≡ asked → P (doing_at (asks (fixed_of given) world i actor asked).world j)
-      of None next = now
-      of (Some asked) next = at asked next (server_at world asked.0)
-
-  lack_doing : (i : ℕ) (why : Why) (found : Option Actor) → actor_at world i ≡ found → P (doing_at (lacks (fixed_of given) world i (Lacked why) found).world j)
-  lack_doing i why None is = now
-  lack_doing i why (Some actor) is = of (next_of (fixed_of given) actor.agent) refl
-    where
-      of : (asked : Option (ℕ × Request)) → next_of (fixed_of given) actor.agent ≡ asked → P (doing_at (lacks_for (fixed_of given) world i actor (Lacked why) asked).world j)
-      of None next = now
-      of (Some asked) next = took_doing world.servers i actor asked (Lacked why) actor.stamp is next
-
   pub event_doing : (event : Event) → BeginsNone given j world event → P (doing_at (step (fixed_of given) world event).world j)
-  event_doing (Begin i job) none = begin_doing i job (actor_at world i) refl none
-  event_doing (Step i) none = step_doing i (actor_at world i) refl
-  event_doing (Crash server) none = operator_doing server request.Crash (server_at world server)
-  event_doing (Return server) none = operator_doing server request.Return (server_at world server)
-  event_doing (Forget i site) none = forget_doing i site (actor_at world i) refl
-  event_doing (Lack i why) none = lack_doing i why (actor_at world i) refl
+  event_doing = by_moves (fixed_of given) world (λ event stepped. BeginsNone given j world event → P (doing_at stepped.world j)) (record {
+    nothing = λ event _. now;
+    begins = λ number actor job there none.
+        same_doing number actor (record actor { agent = begin (fixed_of given) actor.agent job }) there
+        (λ at. begun_same given number job actor (subst (λ found. with_job job (begins_now (fixed_of given) number job found) ≡ None) there (none at)));
+    forgets = λ number actor site there _. same_doing number actor (record actor { agent = forget actor.agent site }) there (λ at. refl);
+    answers = λ number actor asked st there next at room _.
+        took_doing (slice_set world.servers asked.0 (served st (sent actor asked.1))) number actor asked (Replied (reply_of st asked.1)) (answer_of st (sent actor asked.1)).stamp there next;
+    lacks = λ event number actor asked why by there next _. took_doing world.servers number actor asked (Lacked why) actor.stamp there next;
+    operates = λ event server asked st by there room _. now;
+  })

@@ -1,43 +1,42 @@
 -- What agents keep and hold of a suite was its register's: event by event.
-use Rattle.law_run_knowledge.proofs.Vocabulary.{◌≡◌, ◌⊎◌, inl, inr, ℕ, zero, suc, ◌+◌, Bool, true, false, cond, List, [], ◌∷◌, ◌++◌, Option, Some, None, refl, sym, ap, subst, ◌∙◌, ◌*◌, ◌&&◌, nat_lt, slice_get, slice_set, nat_cmp, arith, same_Some}
+use Rattle.law_run_knowledge.proofs.Vocabulary.{◌≡◌, ◌⊎◌, inl, inr, ℕ, zero, suc, ◌+◌, true, false, cond, List, [], ◌∷◌, ◌++◌, Option, Some, None, refl, sym, ap, subst, ◌∙◌, ◌*◌, ◌&&◌, nat_lt, slice_get, slice_set, nat_cmp, arith, same_Some}
 use Rattle.law_run_knowledge.proofs.Vocabulary.{none-some, IsOrdered, Request, Reply, absent_prefix, Prefix, ReadPoint, GatheredSuite, Suites, suite_of, Response, Replied, Lacked, Fixed, Task, Granted, Phase, Gathering, Fetching, Widening, Preparing}
 use Rattle.law_run_knowledge.proofs.Vocabulary.{Deciding, Finishing, TransactionRun, SweepRun, Doing, Running, RunningSweep, After, GoesOn, Ends, Agent, fixed_of, next_in, next_of, left, take_in, take, begin, started, forget, is_idle, has_sense}
-use Rattle.law_run_knowledge.proofs.Vocabulary.{max_jobs, Beginning, WasPrefix, GoesWith, World, set1, begun, Event, run, Obeys, Inv, moves, beginning, ToldVersion, SuiteWas, DoingWas, AllWere, entries_come_from_puts, has_from, Lack as Why}
+use Rattle.law_run_knowledge.proofs.Vocabulary.{max_jobs, Beginning, WasPrefix, GoesWith, World, begun, Event, run, Obeys, Inv, beginning, ToldVersion, SuiteWas, DoingWas, AllWere, entries_come_from_puts, has_from, Lack as Why}
 use Rattle.suite_prefix.specs.SettingsRules.{Opening}
-use Rattle.rep_core.specs.declared.stamped.Stamped.{Stamped}
 use Rattle.rep_core.specs.State.{State}
 use Rattle.rep_core.specs.Service.{reply_of}
-use Rattle.rep_core.specs.Serving.{answer_of, is_full, served}
+use Rattle.rep_core.specs.Serving.{answer_of, is_full}
 use Rattle.txn_core.specs.declared.job.Job.{Job}
 use Rattle.txn_core.specs.declared.job.Job.TheVariants.{Transaction, Sweep}
 use Rattle.txn_core.specs.Transactions.{Step, execute, after_response, request_of, request_in, asked_for, said_to}
 use Rattle.txn_core.proofs.Causes.{Stands}
 use Rattle.txn_core.specs.Laws.{Exchange}
 use Rattle.txn_core.proofs.Upheld.{stands_after}
-use Rattle.run_core.specs.declared.event.Event.TheVariants.{Begin, Crash, Return, Forget, Step as Steps, Lack}
-use Rattle.run_core.specs.Worlds.{Actor, server_at, actor_at, with_server, answered, asks_at, asks, steps_once, lacks_for, lacks, operated, operates, becomes, step, actors_from}
+use Rattle.run_core.specs.Worlds.{Actor, server_at, actor_at, with_actor, answered, lacked, step, actors_from}
 use Rattle.law_suite_machine.proofs.Steps.{all_steps}
 use Rattle.law_suite_machine.proofs.Starting.{begins}
 use Rattle.law_suite_machine.proofs.Conclusions.{copies_were}
 use Rattle.law_server_moves.specs.Views.{Shows}
 use Rattle.law_server_moves.proofs.Opening.{opening_shows}
-use Rattle.law_server_moves.proofs.Replies.{replies_tell}
 use Rattle.law_run_machine.specs.Deciding.{decision_by}
-use Rattle.law_run_machine.specs.Machines.{servers_of, home_in, response_events, events_of, answered_events, asked_at_events, asked_events, step_events, lacks_for_events, lack_events, operated_events, operator_events, begin_events, moved}
+use Rattle.law_run_machine.specs.Machines.{servers_of, home_in, response_events, events_of, answered_events, begin_events, moved}
 use Rattle.law_run_machine.specs.Machines.{machine_from, machine_of}
-use Rattle.law_run_machine.specs.Sides.{AnsweredWell, AsksAtWell, AsksWell, StepsWell, LacksForWell, LacksWell, KeepsSide, KeepSides}
-use Rattle.law_run_machine.proofs.Servers.{server_there, servers_set, servers_open}
-use Rattle.law_run_machine.proofs.Consistent.{AllConsistent, served_is, opening_consistent}
-use Rattle.law_run_machine.proofs.Following.{serves, event_comes}
+use Rattle.law_run_machine.specs.Sides.{AskedWell, KeepsSide, KeepSides}
+use Rattle.law_run_machine.proofs.Servers.{servers_open}
+use Rattle.law_run_machine.proofs.Consistent.{AllConsistent, opening_consistent}
+use Rattle.law_run_machine.proofs.Following.{exchanges, event_comes}
 use Rattle.law_run_machine.proofs.Joining.{run-append, obeys-append}
 use Rattle.law_run_machine.proofs.Jobs.{IdleOr, All, event_all, opens}
-use Rattle.law_run_machine.proofs.Turned.{set_here, set_apart, same_or}
+use Rattle.law_run_machine.proofs.Turned.{set_here, set_apart, same_or, tells}
+use Rattle.law_run_machine.proofs.Asked.{exchanged}
+use Rattle.law_run_machine.proofs.Own.{own_unheard}
+use Rattle.law_run_machine.proofs.Moves.{by_moves}
+use Rattle.law_runs.proofs.Moves.{sent, what_of}
 use Rattle.law_run_knowledge.specs.Laws.{KnowledgeWas, KnownWas}
 use Rattle.std.specs.List.Sorted.{IsStrictlySortedBy}
 use Rattle.rep_core.specs.declared.request.Request.TheVariants as request
 use Rattle.rep_core.specs.declared.reply.Reply.TheVariants as reply
-use Rattle.rep_core.specs.declared.stamped.Lack.TheVariants as lack
-use Rattle.rep_core.specs.Serving as serving
 use Rattle.txn_core.specs.Sweeps as sweep
 use Rattle.txn_core.specs.Agents as agents
 use Rattle.run_core.specs.declared.event.Event as happening
@@ -153,16 +152,6 @@ module _ (given : Opening) (z : ℕ) (w : World) (world : worlds.World) (inv : I
   never : (w : World) → Inv start w → WasPrefix start w.log (absent_prefix (fixed_of given).service.c0)
   never w inv = (copies_were start w inv).never
 
-  tells : (i : ℕ) (st : State) (sent : Stamped Request) (later : World) → server_at world i ≡ Some st → is_full st sent ≡ false → Shows z (home_in given) (servers_of given (with_server i (served st sent) world)) later
-      → steps.Tells z (home_in given) i w later sent.value (reply_of st sent.value)
-  tells i st sent later there none shows_later =
-      subst (λ st. is_full st sent ≡ false → Shows z (home_in given) (set1 (servers_of given world) i (serving.step st sent)) later
-      → steps.Tells z (home_in given) i w later sent.value (reply_of st sent.value)) (server_there given world i st there)
-      (λ none shows_later. replies_tell z (home_in given) (servers_of given world) i w later sent shows none shows_later)
-      none
-      (subst (λ new. Shows z (home_in given) (set1 (servers_of given world) i new) later) (sym (served_is st sent none))
-      (subst (λ servers. Shows z (home_in given) servers later) (sym (servers_set given world i st (served st sent) there)) shows_later))
-
   -- the others as they were, the one as it is now
   set : (later : World) → Lasts start w later → AllFit z start w world → (n : ℕ) (was now : Actor) → actor_at world n ≡ Some was → AgentFits z start later now.agent
       → (m : ℕ) (x : Actor) → slice_get (slice_set world.agents n now) m ≡ Some x → AgentFits z start later x.agent
@@ -192,13 +181,13 @@ module _ (given : Opening) (z : ℕ) (w : World) (world : worlds.World) (inv : I
 
   -- and a reply
   replied_says : (later : World) (inv_later : Inv start later) (number : ℕ) (actor : Actor) → actor_at world number ≡ Some actor → (asked : ℕ × Request) (said : Reply) → next_of (fixed_of given) actor.agent ≡ Some asked
-      → let first = moves z (home_in given) (decision_by z w actor.agent.doing) asked.0 w asked.1 said in
-      Obeys start w first → steps.Tells z (home_in given) asked.0 w (run start w first) asked.1 said → Lasts start w later → Lasts start (run start w first) later
+      → let first = exchanged z (home_in given) (decision_by z w actor.agent.doing) asked.0 w asked.1 said in
+      Obeys start w first → steps.Tells z (home_in given) asked.0 w (run start w first) asked.1 said → Lasts start w later → Lasts start (run start w first) later → later.told ≡ (run start w first).told
       → SaysDoing start z later inv_later (fixed_of given) (never later inv_later) actor.agent.doing asked (Replied said)
-  replied_says later inv_later number actor there asked said next obeys told from_first from_next = of actor.agent.doing refl next
+  replied_says later inv_later number actor there asked said next obeys told from_first from_next same_told = of actor.agent.doing refl next
     where
       first : List Event
-      first = moves z (home_in given) (decision_by z w actor.agent.doing) asked.0 w asked.1 said
+      first = exchanged z (home_in given) (decision_by z w actor.agent.doing) asked.0 w asked.1 said
 
       answers : (answer : Reply) → Replied said ≡ Replied answer → said ≡ answer
       answers answer same = cc
@@ -210,12 +199,13 @@ module _ (given : Opening) (z : ℕ) (w : World) (world : worlds.World) (inv : I
             let asks = gathers_for (fixed_of given) txn_run.task txn_run.suites txn_run.phase n asked.0 asked.1 hears is in
             said_later z start (run start w first) later from_next txn_run.task.t asked.0 heard
             (says_so start z (home_in given) (decision_by z w actor.agent.doing) asked.0 w inv txn_run.task (suite_of txn_run.suites z) asked.0 asked.1 said
-            (subst (λ n. asked_for txn_run.task n (suite_of txn_run.suites n) ≡ Some asked) here asks) obeys told heard (ap (said_to asked.1) (answers answer same) ∙ hears_so));
+            (subst (λ n. asked_for txn_run.task n (suite_of txn_run.suites n) ≡ Some asked) here asks) told heard (ap (said_to asked.1) (answers answer same) ∙ hears_so));
         gives = λ answer same t dver version content fetch given_so of_t some shown.
             let tells_so : steps.Tells z (home_in given) asked.0 w (run start w first) (request.Fetch t z) (reply.Given version content) =
             subst (λ said. steps.Tells z (home_in given) asked.0 w (run start w first) (request.Fetch t z) said) (answers answer same ∙ given_so)
             (subst (λ request. steps.Tells z (home_in given) asked.0 w (run start w first) request said) fetch told) in
-            gives_so start z (home_in given) (decision_by z w actor.agent.doing) asked.0 w inv later from_first t dver version content (tells_so refl) some (subst (λ t. ToldVersion later t asked.0 dver) (sym of_t) shown);
+            let no_lock : later.told ≡ w.told = same_told ∙ ap (λ asked'. (run start w (exchanged z (home_in given) (decision_by z w actor.agent.doing) asked.0 w asked' said)).told) fetch in
+            gives_so start z (home_in given) (decision_by z w actor.agent.doing) asked.0 w inv later from_first no_lock t dver version content (tells_so refl) some (subst (λ t. ToldVersion later t asked.0 dver) (sym of_t) shown);
       }
       of (Some (RunningSweep sweep_run)) doing is = tt
       of None doing is = tt
@@ -223,124 +213,64 @@ module _ (given : Opening) (z : ℕ) (w : World) (world : worlds.World) (inv : I
   module _ (fits : AllFit z start w world) where
     -- ---- a request of an agent
 
-    lacked_fits : (number : ℕ) (actor : Actor) (why : Why) (asked : ℕ × Request) (stamp : ℕ) → actor_at world number ≡ Some actor
-        → next_of (fixed_of given) actor.agent ≡ Some asked → Obeys start w (response_events given z actor (Lacked why))
-        → (m : ℕ) (x : Actor) → slice_get (slice_set world.agents number (worlds.moved actor stamp (take (fixed_of given) actor.agent (Lacked why)))) m ≡ Some x
-        → AgentFits z start (run start w (response_events given z actor (Lacked why))) x.agent
-    lacked_fits number actor why asked stamp there next well =
+    lacked_fits : (number : ℕ) (actor : Actor) (asked : ℕ × Request) (why : Why) → actor_at world number ≡ Some actor → next_of (fixed_of given) actor.agent ≡ Some asked → Obeys start w (response_events given z actor (Lacked why))
+        → AllFit z start (run start w (response_events given z actor (Lacked why))) (lacked (fixed_of given) world number actor (Lacked why)).world
+    lacked_fits number actor asked why there next may =
         let own = response_events given z actor (Lacked why) in
         let later = run start w own in
-        let inv_later = all_steps start w inv own well in
-        let l = lasts start w own inv well in
-        set later l fits number actor (worlds.moved actor stamp (take (fixed_of given) actor.agent (Lacked why))) there
+        let inv_later = all_steps start w inv own may in
+        let l = lasts start w own inv may in
+        set later l fits number actor (worlds.moved actor actor.stamp (take (fixed_of given) actor.agent (Lacked why))) there
         (taken_fits start z later inv_later (fixed_of given) (never later inv_later) actor.agent (Lacked why) asked next
         (lacked_says later inv_later number actor there why asked next) (agent_later z start w later l actor.agent (fits number actor there)))
 
     answered_fits : (number : ℕ) (actor : Actor) (asked : ℕ × Request) (st : State) → actor_at world number ≡ Some actor → next_of (fixed_of given) actor.agent ≡ Some asked
-        → server_at world asked.0 ≡ Some st → (b : Bool) → is_full st (record { stamp = actor.stamp; value = asked.1 }) ≡ b
-        → AnsweredWell given z w actor st (cond b None (Some (record { server = asked.0; request = record { stamp = actor.stamp; value = asked.1 }; reply = answer_of st (record { stamp = actor.stamp; value = asked.1 }) })))
-        → AllFit z start
-        (run start w
-        (answered_events given z w actor
-        (cond b None
-        (Some (record {
-          server = asked.0;
-          request = record { stamp = actor.stamp; value = asked.1 };
-          reply = answer_of st
-              (record { stamp = actor.stamp; value = asked.1 });
-        })))))
-        (answered (fixed_of given) world number actor st
-        (cond b None
-        (Some (record {
-          server = asked.0;
-          request = record { stamp = actor.stamp; value = asked.1 };
-          reply = answer_of st
-              (record { stamp = actor.stamp; value = asked.1 });
-        })))).world
-    answered_fits number actor asked st there next at true is well = lacked_fits number actor lack.Full asked actor.stamp there next well
-    answered_fits number actor asked st there next at false is well =
-        let sent : Stamped Request = record { stamp = actor.stamp; value = asked.1 } in
-        let follows = serves given z w world inv shows all actor.agent.doing asked.0 st sent at is well.asks in
+        → server_at world asked.0 ≡ Some st → is_full st (sent actor asked.1) ≡ false → AskedWell given z w actor st.locks (what_of asked.0 st (sent actor asked.1))
+        → AllFit z start (run start w (answered_events given z w actor (Some (what_of asked.0 st (sent actor asked.1))))) (answered (fixed_of given) world number actor st (Some (what_of asked.0 st (sent actor asked.1)))).world
+    answered_fits number actor asked st there next at room well =
+        let follows = exchanges given z w world inv shows all actor.agent.doing asked.0 st (sent actor asked.1) at room well.asks in
         let said = reply_of st asked.1 in
-        let first = moves z (home_in given) (decision_by z w actor.agent.doing) asked.0 w asked.1 said in
+        let first = exchanged z (home_in given) (decision_by z w actor.agent.doing) asked.0 w asked.1 said in
         let own = response_events given z actor (Replied said) in
         let middle = run start w first in
         let inv_middle = all_steps start w inv first follows.obeys in
         let later = run start middle own in
         let inv_later = all_steps start middle inv_middle own well.does in
         let l : Lasts start w later = subst (Lasts start w) (run-append start w first own) (lasts start w (first ++ own) inv (obeys-append start w first own follows.obeys well.does)) in
-        let told = tells asked.0 st sent middle at is follows.shows in
-        let new = worlds.moved actor (answer_of st sent).stamp (take (fixed_of given) actor.agent (Replied said)) in
+        let told = tells given z w world inv shows all number actor.agent.count asked.0 st (sent actor asked.1) middle at room follows.shows in
+        let new = worlds.moved actor (answer_of st (sent actor asked.1)).stamp (take (fixed_of given) actor.agent (Replied said)) in
+        let same_told = (own_unheard start z actor.agent.doing (take (fixed_of given) actor.agent (Replied said)) middle).told in
         subst (λ w. (m : ℕ) (x : Actor) → slice_get (slice_set world.agents number new) m ≡ Some x → AgentFits z start w x.agent) (sym (run-append start w first own))
         (set later l fits number actor new there
         (taken_fits start z later inv_later (fixed_of given) (never later inv_later) actor.agent (Replied said) asked next
-        (replied_says later inv_later number actor there asked said next follows.obeys told l (lasts start middle own inv_middle well.does)) (agent_later z start w later l actor.agent (fits number actor there))))
-
-    at_fits : (number : ℕ) (actor : Actor) (asked : ℕ × Request) → actor_at world number ≡ Some actor → next_of (fixed_of given) actor.agent ≡ Some asked → (o : Option State)
-        → server_at world asked.0 ≡ o → AsksAtWell given z w actor asked o
-        → AllFit z start (run start w (asked_at_events given z w actor asked o)) (asks_at (fixed_of given) world number actor asked o).world
-    at_fits number actor asked there next (Some st) at well = answered_fits number actor asked st there next at (is_full st (record { stamp = actor.stamp; value = asked.1 })) refl well
-    at_fits number actor asked there next None at well = fits
-
-    asks_fits : (number : ℕ) (actor : Actor) → actor_at world number ≡ Some actor → (o : Option (ℕ × Request)) → next_of (fixed_of given) actor.agent ≡ o → AsksWell given z w world actor o
-        → AllFit z start (run start w (asked_events given z w world actor o)) (asks (fixed_of given) world number actor o).world
-    asks_fits number actor there (Some asked) next well = at_fits number actor asked there next (server_at world asked.0) refl well
-    asks_fits number actor there None next well = fits
-
-    step_all_fits : (number : ℕ) (o : Option Actor) → actor_at world number ≡ o → StepsWell given z w world o → AllFit z start (run start w (step_events given z w world o)) (steps_once (fixed_of given) world number o).world
-    step_all_fits number (Some actor) there well = asks_fits number actor there (next_of (fixed_of given) actor.agent) refl well
-    step_all_fits number None there well = fits
-
-    lacks_fits : (number : ℕ) (actor : Actor) (why : Why) → actor_at world number ≡ Some actor → (o : Option (ℕ × Request)) → next_of (fixed_of given) actor.agent ≡ o → LacksForWell given z w actor (Lacked why) o
-        → AllFit z start (run start w (lacks_for_events given z actor (Lacked why) o)) (lacks_for (fixed_of given) world number actor (Lacked why) o).world
-    lacks_fits number actor why there (Some asked) next well = lacked_fits number actor why asked actor.stamp there next well
-    lacks_fits number actor why there None next well = fits
-
-    lack_fits : (number : ℕ) (why : Why) (o : Option Actor) → actor_at world number ≡ o → LacksWell given z w (Lacked why) o
-        → AllFit z start (run start w (lack_events given z (Lacked why) o)) (lacks (fixed_of given) world number (Lacked why) o).world
-    lack_fits number why (Some actor) there well = lacks_fits number actor why there (next_of (fixed_of given) actor.agent) refl well
-    lack_fits number why None there well = fits
-
-    -- ---- the operator
-
-    operated_fits : (i : ℕ) (asked : Request) (st : State) (b : Bool) → Obeys start w
-        (operated_events given z w
-        (cond b None (Some (record { server = i; request = record { stamp = 0; value = asked }; reply = answer_of st (record { stamp = 0; value = asked }) }))))
-        → AllFit z start (run start w (operated_events given z w (cond b None (Some (record { server = i; request = record { stamp = 0; value = asked }; reply = answer_of st (record { stamp = 0; value = asked }) })))))
-        (operated world st (cond b None (Some (record { server = i; request = record { stamp = 0; value = asked }; reply = answer_of st (record { stamp = 0; value = asked }) })))).world
-    operated_fits i asked st true may = fits
-    operated_fits i asked st false may = all_later _ (lasts start w _ inv may) fits
-
-    operator_fits : (i : ℕ) (asked : Request) (o : Option State) → Obeys start w (operator_events given z w i asked o) → AllFit z start (run start w (operator_events given z w i asked o)) (operates world i asked o).world
-    operator_fits i asked (Some st) may = operated_fits i asked st (is_full st (record { stamp = 0; value = asked })) may
-    operator_fits i asked None may = fits
+        (replied_says later inv_later number actor there asked said next follows.obeys told l (lasts start middle own inv_middle well.does) same_told) (agent_later z start w later l actor.agent (fits number actor there))))
 
     -- ---- what changes agents alone
 
-    begin_fits : (number : ℕ) (job : Job) (o : Option Actor) → actor_at world number ≡ o → Obeys start w (begin_events given z job o)
-        → AllFit z start (run start w (begin_events given z job o)) (becomes world number (λ agent. begin (fixed_of given) agent job) o).world
-    begin_fits number job (Some actor) there may =
+    begin_fits : (number : ℕ) (actor : Actor) (job : Job) → actor_at world number ≡ Some actor → Obeys start w (begin_events given z job (Some actor))
+        → AllFit z start (run start w (begin_events given z job (Some actor))) (with_actor number (record actor { agent = begin (fixed_of given) actor.agent job }) world)
+    begin_fits number actor job there may =
         let events = begin_events given z job (Some actor) in
         let later = run start w events in
         let inv_later = all_steps start w inv events may in
         let l = lasts start w events inv may in
         set later l fits number actor (record actor { agent = begin (fixed_of given) actor.agent job }) there
         (begun_fits start z later inv_later (fixed_of given) (never later inv_later) actor.agent job (agent_later z start w later l actor.agent (fits number actor there)))
-    begin_fits number job None there may = fits
-
-    forget_fits : (number site : ℕ) (o : Option Actor) → actor_at world number ≡ o → AllFit z start w (becomes world number (λ agent. forget agent site) o).world
-    forget_fits number site (Some actor) there =
-        set w (lasts start w [] inv tt) fits number actor (record actor { agent = forget actor.agent site }) there (forgot_fits start z w inv (fixed_of given) (never w inv) actor.agent site (fits number actor there))
-    forget_fits number site None there = fits
 
     -- if all stands before an event, and agents keep to their side in it, it stands after
+    event_so : (event : happening.Event) → KeepsSide given z w world event → Obeys start w (events_of given z w world event) → AllFit z start (moved given z w world event) (step (fixed_of given) world event).world
+    event_so = by_moves given z w world (λ _ side events stepped. side → Obeys start w events → AllFit z start (run start w events) stepped.world) (record {
+      nothing = λ _ _ _. fits;
+      begins = λ number actor job there _ may. begin_fits number actor job there may;
+      forgets = λ number actor site there _ may.
+          set w (lasts start w [] inv tt) fits number actor (record actor { agent = forget actor.agent site }) there (forgot_fits start z w inv (fixed_of given) (never w inv) actor.agent site (fits number actor there));
+      answers = λ number actor asked st there next at room well _. answered_fits number actor asked st there next at room well;
+      lacks = λ event number actor asked why by there next _ may. lacked_fits number actor asked why there next may;
+      operates = λ event server asked st by there room _ may. all_later _ (lasts start w _ inv may) fits;
+    })
+
     pub event_fits : (event : happening.Event) → KeepsSide given z w world event → AllFit z start (moved given z w world event) (step (fixed_of given) world event).world
-    event_fits (Begin number job) well = begin_fits number job (actor_at world number) refl well
-    event_fits (Steps number) well = step_all_fits number (actor_at world number) refl well
-    event_fits (Crash server) well = operator_fits server request.Crash (server_at world server) (event_comes given z w world inv shows all (Crash server) tt).obeys
-    event_fits (Return server) well = operator_fits server request.Return (server_at world server) (event_comes given z w world inv shows all (Return server) tt).obeys
-    event_fits (Forget number site) well = forget_fits number site (actor_at world number) refl
-    event_fits (Lack number why) well = lack_fits number why (actor_at world number) refl well
+    event_fits event well = event_so event well (event_comes given z w world inv shows all event well).obeys
 
 -- ---- runs
 

@@ -1,7 +1,8 @@
 -- What was so stays so: whatever happens to a suite, what an agent keeps and holds of it was still its register's.
-use Rattle.law_run_knowledge.proofs.Vocabulary.{◌≡◌, ℕ, true, List, [], ◌∷◌, Option, Some, None, refl, sym, ap, ◌∙◌, nat_cmp, none-some, IsOrdered, Content, Prefix, Said, Cache, GatheredSuite, Suites, Doing, Running, arith, RunningSweep, Agent, Each}
-use Rattle.law_run_knowledge.proofs.Vocabulary.{Beginning, GoesWith, Told, World, Event, Held, Upgrade, happens, upgraded_told, run, May, Obeys, Stays, at2, Inv, told_to, SaidIs, AreTold, CacheWas, ToldVersion, SuiteWas}
+use Rattle.law_run_knowledge.proofs.Vocabulary.{◌≡◌, ℕ, List, [], ◌∷◌, Option, Some, None, ◌∙◌, nat_cmp, IsOrdered, Content, Prefix, Said, Cache, GatheredSuite, Suites, Doing, Running, arith, RunningSweep, Agent, Each}
+use Rattle.law_run_knowledge.proofs.Vocabulary.{Beginning, GoesWith, Told, World, Event, run, Obeys, Stays, Inv, told_to, SaidIs, AreTold, CacheWas, ToldVersion, SuiteWas}
 use Rattle.law_suite_machine.proofs.Lasting.{run_stays}
+use Rattle.law_suite_machine.proofs.Licences.{good_all}
 use Rattle.suite_collect.specs.declared.told.Said.TheVariants as said
 use Rattle.suite_collect.specs.declared.told.Told as collect
 use Rattle.law_run_knowledge.proofs.Walk.{InPhase}
@@ -12,24 +13,6 @@ use Rattle.law_run_knowledge.proofs.Walk.{InPhase}
 abbrev pub StillTold : Option Told → Told → Type 0
 StillTold o told = (later : Told) × (o ≡ Some later) × (later.copy ≡ told.copy)
 
-one_told : (start : Beginning) (w : World) (event : Event) → May start w event → (i t : ℕ) (told : Told) → w.told i t ≡ Some told → StillTold ((happens start w event).told i t) told
-one_told start w (Held j u exclusive) may i t told is =
-    at2 (λ o. StillTold o told) w.told j u (Some (record { exclusive = exclusive; copy = w.copy j })) i t
-    (λ at. absurd (none-some told (sym may.untold ∙ ap (w.told j) (sym at.1) ∙ ap (λ i. w.told i t) (sym at.0) ∙ is)))
-    (λ _. (told, is, refl))
-one_told start w (Upgrade j u) may i t told is =
-    at2 (λ o. StillTold o told) w.told j u (upgraded_told (w.told j u)) i t
-    (λ at. (record { exclusive = true; copy = told.copy }, ap upgraded_told (ap (w.told j) (sym at.1) ∙ ap (λ i. w.told i t) (sym at.0) ∙ is), refl))
-    (λ _. (told, is, refl))
-one_told start w other may i t told is = (told, is, refl)
-
-pub still_told : (start : Beginning) (w : World) (events : List Event) → Obeys start w events → (i t : ℕ) (told : Told) → w.told i t ≡ Some told → StillTold ((run start w events).told i t) told
-still_told start w [] may i t told is = (told, is, refl)
-still_told start w (event ∷ events) may i t told is =
-    let one = one_told start w event may.0 i t told is in
-    let rest = still_told start (happens start w event) events may.1 i t one.0 one.1 in
-    (rest.0, rest.1, rest.2 ∙ one.2)
-
 -- ---- what agents hold
 
 -- what stays from one world to a later one
@@ -38,7 +21,7 @@ pub record Lasts (start : Beginning) (w later : World) : Type 0 where
   pub told : (i t : ℕ) (told : Told) → w.told i t ≡ Some told → StillTold (later.told i t) told
 
 pub lasts : (start : Beginning) (w : World) (events : List Event) → Inv start w → Obeys start w events → Lasts start w (run start w events)
-lasts start w events inv may = record { stays = run_stays start w inv events may; told = still_told start w events may }
+lasts start w events inv may = record { stays = run_stays start w inv events may; told = (good_all start w inv events may).told }
 
 -- the suites of a transaction are in order, and what it holds of the suite z was the register's
 abbrev pub FitIn : ℕ → Beginning → World → ℕ → Suites → Type 0

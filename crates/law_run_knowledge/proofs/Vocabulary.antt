@@ -7,14 +7,13 @@ pub use Rattle.std.proofs.lemmas.Option.{none-some, same_Some}
 pub use Rattle.std.specs.Ordering.{is_eq, nat_cmp}
 pub use Rattle.file_exec.specs.declared.need.Need.TheVariants.{Hold, Know}
 pub use Rattle.law_run_machine.specs.Telling.{AreTold, SaidIs, ToldOf, told_to}
-pub use Rattle.law_server_moves.specs.Laws.{Tells, TellsContent, TellsCopy, beginning}
-pub use Rattle.law_server_moves.specs.Moves.{moves}
+pub use Rattle.law_server_moves.specs.Laws.{Tells, TellsContent, beginning}
 pub use Rattle.law_suite_machine.proofs.Invariant.{Inv}
 pub use Rattle.law_suite_machine.proofs.Places.{at2}
-pub use Rattle.law_suite_machine.specs.Conditions.{May, MayUpgrade, Obeys}
-pub use Rattle.law_suite_machine.specs.Events.{Event, Held, Upgrade, happens, run, upgraded_told}
+pub use Rattle.law_suite_machine.specs.Conditions.{Obeys}
+pub use Rattle.law_suite_machine.specs.Events.{Event, run}
 pub use Rattle.law_suite_machine.specs.Laws.{CopiesWere, Stays}
-pub use Rattle.law_suite_machine.specs.Machine.{Told, World, begun, set1}
+pub use Rattle.law_suite_machine.specs.Machine.{Told, World, begun}
 pub use Rattle.law_suite_machine.specs.Registers.{Beginning, GoesWith, WasContent, WasPrefix}
 pub use Rattle.rep_core.specs.declared.reply.Reply.{Reply}
 pub use Rattle.rep_core.specs.declared.request.Request.{Request}

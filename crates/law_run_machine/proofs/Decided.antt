@@ -21,25 +21,29 @@ module _ (start : Beginning) (w : World) (t : ℕ) (undecided : w.verdict t ≡ 
   with_known known (Ok granted) None aimed none owes = record { ready = ready; knows = knows known owes; unaimed = aimed }
   with_known known (Ok granted) (Some new) aimed none owes = search (ready, knows, arith)
 
-  without : (outcome : Proposal) → ((i : ℕ) → w.told i t ≡ None) → May start w (decides_without t outcome)
-  without outcome h1 = search arith
+  without : (outcome : Proposal) → ((i : ℕ) → w.told i t ≡ None) → w.aim t ≡ None → May start w (decides_without t outcome)
+  without outcome h1 h2 = search arith
 
   by_first : (outcome : Proposal) (new : Option Change) (suite : GatheredSuite) (first : Option ReadPoint) → (first ≡ None → ⊥) → w.aim t ≡ new
       → ((refusal : _) → outcome ≡ Err refusal → new ≡ None) → OwesFirst start w t outcome new suite first → May start w (decides_first w t outcome new suite first)
   by_first outcome new suite first h4 h5 h6 h7 = search (with_known, arith)
 
   by_suite : (outcome : Proposal) (new : Option Change) (found : Option GatheredSuite) → ((suite : GatheredSuite) → found ≡ Some suite → suite.first ≡ None → ⊥) → w.aim t ≡ new
-      → ((refusal : _) → outcome ≡ Err refusal → new ≡ None) → ((i : ℕ) → is_some (w.told i t) ≡ holds Shared (told_in found) i) → Owes start w t outcome new found
+      → ((refusal : _) → outcome ≡ Err refusal → new ≡ None) → (found ≡ None → new ≡ None) → ((i : ℕ) → is_some (w.told i t) ≡ holds Shared (told_in found) i) → Owes start w t outcome new found
       → May start w (decides_on w t outcome new found)
-  by_suite outcome new found h3 h4 h5 h6 h7 = search (by_first, without, told_none, arith)
+  by_suite outcome new found h3 h4 h5 h6 h7 h8 = search (by_first, without, told_none, arith)
 
 writes_none : (z : ℕ) (suites : Suites) (outcome : Proposal) (refusal : _) → outcome ≡ Err refusal → to_write z suites outcome ≡ None
 writes_none z suites outcome refusal h4 = search arith
 
+-- nor to a suite that was not asked for
+writes_nothing : (z : ℕ) (suites : Suites) (outcome : Proposal) → suite_of suites z ≡ None → to_write z suites outcome ≡ None
+writes_nothing z suites outcome h3 = search arith
+
 pub may_decide : (start : Beginning) (z : ℕ) (w : World) (task : Task) (suites : Suites) (outcome : Proposal) → Going w task.t → w.aim task.t ≡ to_write z suites outcome
     → ToldAs z w task.t suites → w.verdict task.t ≡ None → ((i : ℕ) (told : Told) → w.told i task.t ≡ Some told → (left : Option Replica) × (w.ready i task.t ≡ Some left))
     → ((suite : GatheredSuite) → suite_of suites z ≡ Some suite → suite.first ≡ None → ⊥) → Owes start w task.t outcome (to_write z suites outcome) (suite_of suites z) → May start w (decision_with z w task suites outcome)
-may_decide start z w task suites outcome going aimed told undecided prepared had owes = search (by_suite, writes_none, arith)
+may_decide start z w task suites outcome going aimed told undecided prepared had owes = search (by_suite, writes_none, writes_nothing, arith)
 
 -- of what an agent is doing
 pub some_of : {X : Type 0} (o : Option X) → is_some o ≡ true → (x : X) × (o ≡ Some x)

@@ -1,22 +1,25 @@
 -- Agents keep to their side in every run: event by event.
-use Rattle.law_run_machine.proofs.Vocabulary.{◌≡◌, inl, ℕ, zero, suc, ◌+◌, ◌<◌, ◌≤◌, Bool, true, false, cond, List, [], ◌∷◌, ◌++◌, length, Option, Some, None, refl, sym, ap, subst, ◌∙◌, arith, ◌*◌, slice_get, false≢true, same_Some, none-some}
-use Rattle.law_run_machine.proofs.Vocabulary.{max_servers, Opening, Request, Reply, has_prepared, State, reply_of, answer_of, is_full, Replied, Lacked, Job, fixed_of, next_of, take, begin, forget, Begin, Step, Crash, Return, Forget, Lack, Actor}
-use Rattle.law_run_machine.proofs.Vocabulary.{server_at, actor_at, answered, asks_at, asks, steps_once, lacks_for, lacks, operated, operates, becomes, step, Beginning, World, begun, Event, run, Obeys, Inv, all_steps, Shows, moves, beginning}
-use Rattle.law_run_machine.proofs.Vocabulary.{opening_shows, decision_by, own_events, servers_of, home_in, begin_events, answered_events, asked_at_events, asked_events, step_events, lacks_for_events, lack_events, operated_events, operator_events}
+use Rattle.law_run_machine.proofs.Vocabulary.{◌≡◌, inl, ℕ, zero, suc, ◌+◌, ◌<◌, ◌≤◌, false, List, [], ◌∷◌, ◌++◌, length, Some, None, refl, sym, ap, subst, ◌∙◌, arith, ◌*◌, slice_get, false≢true, same_Some, none-some}
+use Rattle.law_run_machine.proofs.Vocabulary.{max_servers, Opening, Request, Reply, has_prepared, State, reply_of, answer_of, is_full, Replied, Lacked, fixed_of, next_of, take, begin, forget, Actor}
+use Rattle.law_run_machine.proofs.Vocabulary.{server_at, actor_at, answered, step, Beginning, World, begun, Event, run, Obeys, Inv, all_steps, Shows, moves, beginning}
+use Rattle.law_run_machine.proofs.Vocabulary.{opening_shows, decision_by, own_events, servers_of, home_in, begin_events, answered_events}
 use Rattle.law_run_machine.proofs.Vocabulary.{events_of, moved, SidesAreKept, Owed, AreOwed}
 use Rattle.law_suite_machine.proofs.Starting.{begins}
-use Rattle.law_run_machine.specs.Sides.{AnsweredWell, AsksAtWell, AsksWell, StepsWell, LacksForWell, LacksWell, KeepsSide, KeepSides}
+use Rattle.law_run_machine.specs.Sides.{AskedWell, DoesWell, KeepsSide, KeepSides}
 use Rattle.law_suite_machine.proofs.Lasting.{run_stays}
 use Rattle.rep_core.specs.declared.request.Request.TheVariants as request
-use Rattle.rep_core.specs.declared.reply.Reply.TheVariants as reply
-use Rattle.rep_core.specs.declared.stamped.Lack.TheVariants as lack
 use Rattle.rep_core.specs.State as state
 use Rattle.txn_core.specs.Agents as agents
 use Rattle.run_core.specs.declared.event.Event as happening
 use Rattle.run_core.specs.Worlds as worlds
+use Rattle.run_core.specs.Worlds.{lacked}
+use Rattle.law_server_moves.specs.Agents.{AgentSide}
+use Rattle.law_run_machine.specs.Machines.{response_events}
+use Rattle.law_runs.proofs.Moves.{sent, unstamped, what_of, of_operator}
+use Rattle.law_run_machine.proofs.Moves.{by_moves}
 use Rattle.law_run_machine.proofs.Servers.{server_there, servers_open}
 use Rattle.law_run_machine.proofs.Consistent.{AllConsistent, opening_consistent}
-use Rattle.law_run_machine.proofs.Following.{serves, event_comes}
+use Rattle.law_run_machine.proofs.Following.{serves, exchanges, event_comes}
 use Rattle.law_run_machine.proofs.Joining.{run-append, obeys-append}
 use Rattle.law_run_machine.proofs.Quiet.{AreOf, quiet_all}
 use Rattle.law_run_machine.proofs.Linked.{Untouched, Linked, AllLinked, linked_later}
@@ -57,32 +60,10 @@ module _ (given : Opening) (z : ℕ) (w : World) (world : worlds.World) (inv : I
   -- ---- a request of an agent
 
   answered_next : (number : ℕ) (actor : Actor) (asked : ℕ × Request) (st : State) → actor_at world number ≡ Some actor → next_of (fixed_of given) actor.agent ≡ Some asked
-      → server_at world asked.0 ≡ Some st → (b : Bool) → is_full st (record { stamp = actor.stamp; value = asked.1 }) ≡ b
-      → AnsweredWell given z w actor st (cond b None (Some (record { server = asked.0; request = record { stamp = actor.stamp; value = asked.1 }; reply = answer_of st (record { stamp = actor.stamp; value = asked.1 }) })))
-      × AllLinked z
-      (run first w
-      (answered_events given z w actor
-      (cond b None
-      (Some (record { server = asked.0; request = record { stamp = actor.stamp; value = asked.1 }; reply = answer_of st (record { stamp = actor.stamp; value = asked.1 }) })))))
-      (answered (fixed_of given) world number actor st
-      (cond b None
-      (Some (record {
-        server = asked.0;
-        request = record { stamp = actor.stamp; value = asked.1 };
-        reply = answer_of st
-            (record { stamp = actor.stamp; value = asked.1 });
-      })))).world
-  answered_next number actor asked st there next at true is =
-      let was = linked number actor there in
-      let it = turn first z w w number actor.agent.count (fixed_of given) actor.agent asked (Lacked lack.Full) next was.1.doing (lacked_concerns given z w world inv shows all number actor.agent.count actor.agent.doing asked lack.Full) in
-      let taken = take (fixed_of given) actor.agent (Lacked lack.Full) in (
-        it.does,
-        all_linked z w (run first w (own_events z actor.agent.doing taken)) world number actor (worlds.moved actor actor.stamp taken) there was.0 linked
-            (turned first z w w number (fixed_of given) actor.agent (Lacked lack.Full) was.0 was.1 it)
-            (stays_for (own_events z actor.agent.doing taken) it.does)
-            (others_turned first z w w number (fixed_of given) actor.agent (Lacked lack.Full) was.0 was.1 it),
-      )
-  answered_next number actor asked st there next at false is =
+      → server_at world asked.0 ≡ Some st → is_full st (sent actor asked.1) ≡ false
+      → AskedWell given z w actor st.locks (what_of asked.0 st (sent actor asked.1))
+      × AllLinked z (run first w (answered_events given z w actor (Some (what_of asked.0 st (sent actor asked.1))))) (answered (fixed_of given) world number actor st (Some (what_of asked.0 st (sent actor asked.1)))).world
+  answered_next number actor asked st there next at is =
       let was = linked number actor there in
       let said = reply_of st asked.1 in
       let events = served_at given z w world inv shows all number actor.agent.count actor.agent.doing asked st in
@@ -93,7 +74,7 @@ module _ (given : Opening) (z : ℕ) (w : World) (world : worlds.World) (inv : I
       (λ txn_run now left outcome doing phase same.
       subst (λ (st : State). has_prepared txn_run.task.t st.locks ≡ false) (ap (servers_of given world) same ∙ server_there given world asked.0 st at)
       (waits_first (servers_of given world) actor.agent.doing (waiting number actor there).now txn_run doing now left outcome phase)) in
-      let follows = serves given z w world inv shows all actor.agent.doing asked.0 st (record { stamp = actor.stamp; value = asked.1 }) at is side in
+      let follows = exchanges given z w world inv shows all actor.agent.doing asked.0 st (sent actor asked.1) at is side in
       let later = run first w events in
       let concerns = served_concerns given z w world inv shows all number actor.agent.count actor.agent.doing asked actor.stamp st next was.1.doing at is follows.obeys follows.shows in
       let it = turn first z w later number actor.agent.count (fixed_of given) actor.agent asked (Replied said) next was.1.doing concerns in
@@ -101,38 +82,18 @@ module _ (given : Opening) (z : ℕ) (w : World) (world : worlds.World) (inv : I
       let own = own_events z actor.agent.doing taken in (
         record { asks = side; does = it.does },
         subst
-            (λ w. AllLinked z w (answered (fixed_of given) world number actor st
-            (Some (record {
-              server = asked.0;
-              request = record { stamp = actor.stamp; value = asked.1 };
-              reply = answer_of st
-                  (record { stamp = actor.stamp; value = asked.1 });
-            }))).world) (sym (run-append first w events own))
-            (all_linked z w (run first later own) world number actor (worlds.moved actor (answer_of st (record { stamp = actor.stamp; value = asked.1 })).stamp taken) there was.0 linked
+            (λ w. AllLinked z w (answered (fixed_of given) world number actor st (Some (what_of asked.0 st (sent actor asked.1)))).world) (sym (run-append first w events own))
+            (all_linked z w (run first later own) world number actor (worlds.moved actor (answer_of st (sent actor asked.1)).stamp taken) there was.0 linked
             (turned first z w later number (fixed_of given) actor.agent (Replied said) was.0 was.1 it)
             (subst (Stays w) (run-append first w events own) (stays_for (events ++ own) (obeys-append first w events own follows.obeys it.does)))
             (others_turned first z w later number (fixed_of given) actor.agent (Replied said) was.0 was.1 it)),
       )
 
-  at_next : (number : ℕ) (actor : Actor) (asked : ℕ × Request) → actor_at world number ≡ Some actor → next_of (fixed_of given) actor.agent ≡ Some asked → (o : Option State) → server_at world asked.0 ≡ o
-      → AsksAtWell given z w actor asked o × AllLinked z (run first w (asked_at_events given z w actor asked o)) (asks_at (fixed_of given) world number actor asked o).world
-  at_next number actor asked there next (Some st) at = answered_next number actor asked st there next at (is_full st (record { stamp = actor.stamp; value = asked.1 })) refl
-  at_next number actor asked there next None at = (tt, linked)
-
-  asks_next : (number : ℕ) (actor : Actor) → actor_at world number ≡ Some actor → (o : Option (ℕ × Request)) → next_of (fixed_of given) actor.agent ≡ o
-      → AsksWell given z w world actor o × AllLinked z (run first w (asked_events given z w world actor o)) (asks (fixed_of given) world number actor o).world
-  asks_next number actor there (Some asked) next = at_next number actor asked there next (server_at world asked.0) refl
-  asks_next number actor there None next = (tt, linked)
-
-  step_next : (number : ℕ) (o : Option Actor) → actor_at world number ≡ o → StepsWell given z w world o × AllLinked z (run first w (step_events given z w world o)) (steps_once (fixed_of given) world number o).world
-  step_next number (Some actor) there = asks_next number actor there (next_of (fixed_of given) actor.agent) refl
-  step_next number None there = (tt, linked)
-
   -- ---- one that is not served
 
-  lacks_for_next : (number : ℕ) (actor : Actor) (why : _) → actor_at world number ≡ Some actor → (o : Option (ℕ × Request)) → next_of (fixed_of given) actor.agent ≡ o
-      → LacksForWell given z w actor (Lacked why) o × AllLinked z (run first w (lacks_for_events given z actor (Lacked why) o)) (lacks_for (fixed_of given) world number actor (Lacked why) o).world
-  lacks_for_next number actor why there (Some asked) next =
+  lacked_next : (number : ℕ) (actor : Actor) (asked : ℕ × Request) (why : _) → actor_at world number ≡ Some actor → next_of (fixed_of given) actor.agent ≡ Some asked
+      → DoesWell given z w actor (Lacked why) × AllLinked z (run first w (response_events given z actor (Lacked why))) (lacked (fixed_of given) world number actor (Lacked why)).world
+  lacked_next number actor asked why there next =
       let was = linked number actor there in
       let it = turn first z w w number actor.agent.count (fixed_of given) actor.agent asked (Lacked why) next was.1.doing (lacked_concerns given z w world inv shows all number actor.agent.count actor.agent.doing asked why) in
       let taken = take (fixed_of given) actor.agent (Lacked why) in (
@@ -142,81 +103,38 @@ module _ (given : Opening) (z : ℕ) (w : World) (world : worlds.World) (inv : I
             (stays_for (own_events z actor.agent.doing taken) it.does)
             (others_turned first z w w number (fixed_of given) actor.agent (Lacked why) was.0 was.1 it),
       )
-  lacks_for_next number actor why there None next = (tt, linked)
 
-  lack_next : (number : ℕ) (why : _) (o : Option Actor) → actor_at world number ≡ o → LacksWell given z w (Lacked why) o × AllLinked z
-      (run first w (lack_events given z (Lacked why) o)) (lacks (fixed_of given) world number (Lacked why) o).world
-  lack_next number why (Some actor) there = lacks_for_next number actor why there (next_of (fixed_of given) actor.agent) refl
-  lack_next number why None there = (tt, linked)
-
-  -- ---- the operator
-
-  crash_next : (i : ℕ) (o : Option State) → Obeys first w (operator_events given z w i request.Crash o) → AllLinked z (run first w (operator_events given z w i request.Crash o)) (operates world i request.Crash o).world
-  crash_next i None obeys = linked
-  crash_next i (Some st) obeys =
-      elim (is_full st (record { stamp = 0; value = request.Crash })) as
-      (λ b. Obeys first w
-      (operated_events given z w
-      (cond b None (Some (record { server = i; request = record { stamp = 0; value = request.Crash }; reply = answer_of st (record { stamp = 0; value = request.Crash }) }))))
-      → AllLinked z
-      (run first w
-      (operated_events given z w
-      (cond b None (Some (record { server = i; request = record { stamp = 0; value = request.Crash }; reply = answer_of st (record { stamp = 0; value = request.Crash }) })))))
-      (operated world st
-      (cond b None
-      (Some (record { server = i; request = record { stamp = 0; value = request.Crash }; reply = answer_of st (record { stamp = 0; value = request.Crash }) })))).world) [
-        | true ↦ λ _. linked
-        | false ↦ λ obeys. nobodys (moves z (home_in given) (decision_by z w None) i w request.Crash (reply_of st request.Crash)) obeys (λ t. crashed_of t z (home_in given) (decision_by z w None) i w (reply_of st request.Crash))
-      ] obeys
-
-  return_next : (i : ℕ) (o : Option State) → Obeys first w (operator_events given z w i request.Return o) → AllLinked z (run first w (operator_events given z w i request.Return o)) (operates world i request.Return o).world
-  return_next i None obeys = linked
-  return_next i (Some st) obeys =
-      elim (is_full st (record { stamp = 0; value = request.Return })) as
-      (λ b. Obeys first w
-      (operated_events given z w
-      (cond b None (Some (record { server = i; request = record { stamp = 0; value = request.Return }; reply = answer_of st (record { stamp = 0; value = request.Return }) }))))
-      → AllLinked z
-      (run first w
-      (operated_events given z w
-      (cond b None
-      (Some (record { server = i; request = record { stamp = 0; value = request.Return }; reply = answer_of st (record { stamp = 0; value = request.Return }) })))))
-      (operated world st
-      (cond b None
-      (Some (record { server = i; request = record { stamp = 0; value = request.Return }; reply = answer_of st (record { stamp = 0; value = request.Return }) })))).world) [
-        | true ↦ λ _. linked
-        | false ↦ λ obeys. nobodys (moves z (home_in given) (decision_by z w None) i w request.Return (reply_of st request.Return)) obeys (λ t. returned_of t z (home_in given) (decision_by z w None) i w (reply_of st request.Return))
-      ] obeys
-
-  -- ---- what changes agents alone
-
-  begin_next : (number : ℕ) (job : Job) (o : Option Actor) → actor_at world number ≡ o
-      → Obeys first w (begin_events given z job o) × AllLinked z (run first w (begin_events given z job o)) (becomes world number (λ agent. begin (fixed_of given) agent job) o).world
-  begin_next number job (Some actor) there =
-      let was = linked number actor there in
-      let it = begun_so first z w number (fixed_of given) actor.agent was.0 was.1 job in (
-        it.does,
-        all_linked z w (run first w (begin_events given z job (Some actor))) world number actor (record actor { agent = begin (fixed_of given) actor.agent job }) there was.0 linked it.now
-            (stays_for (begin_events given z job (Some actor)) it.does) it.others,
-      )
-  begin_next number job None there = (tt, linked)
-
-  forget_next : (number site : ℕ) (o : Option Actor) → actor_at world number ≡ o → AllLinked z w (becomes world number (λ agent. forget agent site) o).world
-  forget_next number site (Some actor) there =
-      let was = linked number actor there in
-      all_linked z w w world number actor (record actor { agent = forget actor.agent site }) there was.0 linked
-      (record { index = was.1.index; fresh = was.1.fresh; doing = was.1.doing })
-      (λ t v is. is)
-      (λ u m place at small other. quiet_all first w u (u + 1) [] (next_number u) tt tt)
-  forget_next number site None there = linked
+  -- ---- every event
 
   pub next : (event : happening.Event) → KeepsSide given z w world event × AllLinked z (moved given z w world event) (step (fixed_of given) world event).world
-  next (Begin number job) = begin_next number job (actor_at world number) refl
-  next (Step number) = step_next number (actor_at world number) refl
-  next (Crash server) = (tt, crash_next server (server_at world server) (event_comes given z w world inv shows all (Crash server) tt).obeys)
-  next (Return server) = (tt, return_next server (server_at world server) (event_comes given z w world inv shows all (Return server) tt).obeys)
-  next (Forget number site) = (tt, forget_next number site (actor_at world number) refl)
-  next (Lack number why) = lack_next number why (actor_at world number) refl
+  next = by_moves given z w world (λ _ side events stepped. side × AllLinked z (run first w events) stepped.world) (record {
+    nothing = λ _. (tt, linked);
+    begins = λ number actor job there.
+        let was = linked number actor there in
+        let it = begun_so first z w number (fixed_of given) actor.agent was.0 was.1 job in (
+          it.does,
+          all_linked z w (run first w (begin_events given z job (Some actor))) world number actor (record actor { agent = begin (fixed_of given) actor.agent job }) there was.0 linked it.now
+              (stays_for (begin_events given z job (Some actor)) it.does) it.others,
+        );
+    forgets = λ number actor site there.
+        let was = linked number actor there in (
+          tt,
+          all_linked z w w world number actor (record actor { agent = forget actor.agent site }) there was.0 linked
+              (record { index = was.1.index; fresh = was.1.fresh; doing = was.1.doing })
+              (λ t v is. is)
+              (λ u m place at small other. quiet_all first w u (u + 1) [] (next_number u) tt tt),
+        );
+    answers = answered_next;
+    lacks = λ event number actor asked why by there next. lacked_next number actor asked why there next;
+    operates = λ event server asked st by there room.
+        let side = of_operator (AgentSide (beginning z given) z (home_in given) (decision_by z w None) server st.locks w) tt tt event server asked by in
+        let follows = serves given z w world inv shows all None server st (unstamped asked) there room side in (
+          tt,
+          nobodys (moves z (home_in given) (decision_by z w None) server w asked (reply_of st asked)) follows.obeys
+              (λ t. of_operator (λ asked. (said : Reply) → AreOf t (moves z (home_in given) (decision_by z w None) server w asked said))
+              (crashed_of t z (home_in given) (decision_by z w None) server w) (returned_of t z (home_in given) (decision_by z w None) server w) event server asked by (reply_of st asked)),
+        );
+  })
 
 -- ---- all events
 
@@ -241,7 +159,7 @@ actor_opens start (suc count) zero actor is = search (same_Some, arith)
 actor_opens start (suc count) (suc n) actor is = search (actor_opens (start + 1) count n actor is, arith)
 
 untouched_begun : (z : ℕ) (given : Opening) (t : ℕ) → Untouched (begun (beginning z given)) t
-untouched_begun z given t = record { told = λ i. refl; aim = refl; going = record { gave_up = refl; verdict = inl refl } }
+untouched_begun z given t = record { granted = λ i. refl; told = λ i. refl; aim = refl; going = record { gave_up = refl; verdict = inl refl } }
 
 linked_opening : (z : ℕ) (given : Opening) (n : ℕ) → Linked z (begun (beginning z given)) n (agents.opening n)
 linked_opening z given n = record { index = refl; fresh = λ place past. untouched_begun z given (64 * place + n); doing = tt }

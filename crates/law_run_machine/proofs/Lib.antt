@@ -1,4 +1,5 @@
 mod Vocabulary
+pub mod Moves
 pub mod Servers
 pub mod Consistent
 pub mod Joining

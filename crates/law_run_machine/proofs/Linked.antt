@@ -1,8 +1,9 @@
 -- Agents keep to their side in every run: what each event keeps of agents and machine together.
-use Rattle.law_run_machine.proofs.Vocabulary.{◌≡◌, ℕ, zero, suc, ◌+◌, ◌<◌, ◌≤◌, Option, Some, None, is_some, refl, ap, ◌∙◌, arith, ◌*◌, nat_cmp, IsOrdered, Suites, Phase, TransactionRun, Sweeping, Telling, Doing, Running, RunningSweep, Agent, locks}
+use Rattle.law_run_machine.proofs.Vocabulary.{◌≡◌, ℕ, zero, suc, ◌+◌, ◌<◌, ◌≤◌, false, Option, Some, None, is_some, refl, sym, ap, ◌∙◌, arith, ◌*◌, nat_cmp, IsOrdered, Suites, Phase, TransactionRun, Sweeping, Telling, Doing, Running, RunningSweep, Agent, locks}
 use Rattle.law_run_machine.proofs.Vocabulary.{Actor, actor_at, World, ended_as}
 use Rattle.run_core.specs.Worlds as worlds
 use Rattle.law_run_machine.proofs.Quiet.{Quiet}
+use Rattle.law_run_machine.proofs.Asked.{AllHeard}
 use Rattle.law_run_machine.proofs.Stages.{Going, Stage}
 use Rattle.law_run_machine.proofs.Sending.{ToldAs}
 
@@ -10,6 +11,7 @@ use Rattle.law_run_machine.proofs.Sending.{ToldAs}
 
 -- a transaction of which the machine knows nothing
 pub record Untouched (w : World) (t : ℕ) : Type 0 where
+  pub granted : (i : ℕ) → w.granted i t ≡ false
   pub told : (i : ℕ) → w.told i t ≡ None
   pub aim : w.aim t ≡ None
   pub going : Going w t
@@ -19,6 +21,7 @@ pub record InCourse (z : ℕ) (w : World) (n count : ℕ) (txn_run : Transaction
   pub numbered : txn_run.task.t + 64 ≡ 64 * count + n
   pub ordered : IsOrdered nat_cmp txn_run.suites
   pub told : ToldAs z w txn_run.task.t txn_run.suites
+  pub heard : AllHeard w txn_run.task.t
   pub stage : Stage z w txn_run.task.t txn_run.suites txn_run.phase
 
 -- a sweep tells what was recorded
@@ -45,7 +48,7 @@ going_quiet : (w later : World) (t : ℕ) → Quiet w later t → Going w t → 
 going_quiet w later t quiet going = search arith
 
 pub untouched_quiet : (w later : World) (t : ℕ) → Quiet w later t → Untouched w t → Untouched later t
-untouched_quiet w later t quiet is = record { told = λ i. quiet.told i ∙ is.told i; aim = quiet.aim ∙ is.aim; going = going_quiet w later t quiet is.going }
+untouched_quiet w later t quiet is = record { granted = λ i. quiet.granted i ∙ is.granted i; told = λ i. quiet.told i ∙ is.told i; aim = quiet.aim ∙ is.aim; going = going_quiet w later t quiet is.going }
 
 stage_quiet : (z : ℕ) (w later : World) (t : ℕ) (suites : Suites) (phase : Phase) → Quiet w later t → Stage z w t suites phase → Stage z later t suites phase
 stage_quiet z w later t suites phase h6 h7 = search arith
@@ -66,6 +69,7 @@ doing_later z w later n count (Some (Running txn_run)) small stays others is =
       numbered = is.numbered;
       ordered = is.ordered;
       told = λ i. ap is_some (quiet.told i) ∙ is.told i;
+      heard = λ i none. quiet.granted i ∙ is.heard i (ap is_some (sym (quiet.told i)) ∙ none);
       stage = stage_quiet z w later txn_run.task.t txn_run.suites txn_run.phase quiet is.stage;
     }
 doing_later z w later n count (Some (RunningSweep sweep_run)) small stays others is = round_later w later sweep_run.now stays is

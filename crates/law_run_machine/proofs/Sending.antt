@@ -10,6 +10,7 @@ use Rattle.law_server_moves.specs.Preparing.{GoesBy, Sends}
 use Rattle.file_exec.specs.declared.changes.Change as executor
 use Rattle.rep_core.specs.declared.request.Take.TheVariants as take
 use Rattle.rep_core.specs.declared.request.Request.TheVariants as request
+use Rattle.law_run_machine.proofs.Own.{Unheard}
 use Rattle.law_run_machine.proofs.Stages.{Going, Stage}
 
 -- ---- what a collector asks
@@ -106,13 +107,14 @@ decides : (start : Beginning) (z : ℕ) (w : World) (task : Task) (suites : Suit
     → Decides start w task.t (ended_as (verdict_of (decision_of task outcome))) (decision_with z w task suites outcome)
 decides start z w task suites outcome may = search (logs start w task.t outcome (to_write z suites outcome) (suite_of suites z), ended_so task outcome start w task.t, arith)
 
--- a decision tells of no copy
-pub decision_told : (start : Beginning) (z : ℕ) (w : World) (task : Task) (suites : Suites) (phase : Phase) → (happens start w (decision_in z w task suites phase)).told ≡ w.told
-decision_told start z w task suites phase = search arith
+-- a decision sets no lock, and tells of none
+pub decision_unheard : (start : Beginning) (z : ℕ) (w : World) (task : Task) (suites : Suites) (phase : Phase) → Unheard w (happens start w (decision_in z w task suites phase))
+decision_unheard start z w task suites phase = search arith
 
 -- ---- the agent's side
 
-module _ (start : Beginning) (z : ℕ) (home : ℕ → ℕ) (locks : List Lock) (w : World) (fixed : Fixed) (task : Task) (suites : Suites) (server : ℕ) (ordered : IsOrdered nat_cmp suites) (told : ToldAs z w task.t suites) where
+module _ (start : Beginning) (z : ℕ) (home : ℕ → ℕ) (locks : List Lock) (w : World) (fixed : Fixed) (task : Task) (suites : Suites) (server : ℕ) (ordered : IsOrdered nat_cmp suites)
+    (ungranted : (i : ℕ) → holds Shared (told_at suites z) i ≡ false → w.granted i task.t ≡ false) where
   asks_lock : (number : ℕ) (asked : Request) (decision : Event) → asked_for task number (suite_of suites number) ≡ Some (server, asked) → AgentSide start z home decision server locks w asked
   asks_lock number asked decision is = search arith
 

@@ -1,26 +1,27 @@
 -- Agents against the machine of a suite: after a turn, and once a job begins.
 use Rattle.law_run_machine.proofs.Vocabulary.{◌≡◌, ℕ, zero, suc, ◌+◌, ◌<◌, ◌≤◌, Bool, true, false, cond, List, [], ◌∷◌, Option, Some, None, is_some, refl, sym, ap, subst, ◌∙◌, arith, ◌*◌, ◌==◌, ◌&&◌, ◌||◌, nat_lt, slice_get, slice_set, and_parts}
 use Rattle.law_run_machine.proofs.Vocabulary.{same_Some, none-some, Opening, Request, Reply, Stamped, Lock, has_prepared, State, reply_of, is_full, served, ReadPoint, GatheredSuite, Suites, Response, Replied, Lacked, Job, Transaction, Sweep, Fixed}
-use Rattle.law_run_machine.proofs.Vocabulary.{Task, Proposal, Phase, Preparing, Deciding, TransactionRun, Sweeping, Resolving, SweepRun, Doing, Running, RunningSweep, After, home_of, execute, decision_of, asked_now, Agent, fixed_of, next_in, next_of}
+use Rattle.law_run_machine.proofs.Vocabulary.{Task, Proposal, Phase, Preparing, Deciding, TransactionRun, Sweeping, Resolving, SweepRun, Doing, Running, RunningSweep, After, GoesOn, Ends, home_of, execute, decision_of, asked_now, Agent, fixed_of, next_in, next_of}
 use Rattle.law_run_machine.proofs.Vocabulary.{take, take_in, begin, started, is_idle, has_sense, max_jobs, left, locks, says_held, is_decide, Keeps, nothing_held, begin_keeps, Actor, server_at, actor_at, with_server, Beginning, Change, World}
-use Rattle.law_run_machine.proofs.Vocabulary.{Verdict, set1, Event, run, May, Obeys, one_is, one_not, Inv, Shows, ended_as, moves, AgentSide, beginning, asks_in_its_name, asks_to_sweep, decides_first, decision_by, decision_in, decision_with}
-use Rattle.law_run_machine.proofs.Vocabulary.{begun_events, own_events, servers_of, home_in}
+use Rattle.law_run_machine.proofs.Vocabulary.{Verdict, Event, run, May, Obeys, one_is, one_not, Inv, Shows, ended_as, AgentSide, beginning, asks_in_its_name, asks_to_sweep, decides_first, decision_by, decision_in, decision_with}
+use Rattle.law_run_machine.proofs.Vocabulary.{aims, begun_events, own_events, servers_of, home_in, may_sweep, GiveUp, ◌++◌}
 use Rattle.acl_core.specs.Identity.{Identity}
 use Rattle.file_ops.specs.declared.operation.Op.{Op}
 use Rattle.law_server_moves.proofs.Replies.{replies_tell}
 use Rattle.rep_core.specs.declared.request.Request.TheVariants as request
 use Rattle.rep_core.specs.declared.reply.Reply.TheVariants as reply
 use Rattle.rep_core.specs.declared.reply.Verdict as replied
-use Rattle.rep_core.specs.Serving as serving
 use Rattle.run_core.specs.Worlds as worlds
 use Rattle.law_server_moves.specs.Laws as steps
 use Rattle.law_runs.proofs.Asking as asking
-use Rattle.law_run_machine.proofs.Servers.{server_there, servers_set}
-use Rattle.law_run_machine.proofs.Consistent.{AllConsistent, served_is}
-use Rattle.law_run_machine.proofs.Quiet.{Quiet, IsOf, quiet_same, quiet_all}
-use Rattle.law_run_machine.proofs.Asked.{named_of, swept_of, steady_served, told_served}
-use Rattle.law_run_machine.proofs.Stages.{Leaves, Does, begins_response}
-use Rattle.law_run_machine.proofs.Sending.{agent_side, upgrade_told, decision_told}
+use Rattle.law_run_machine.proofs.Servers.{server_there}
+use Rattle.law_run_machine.proofs.Consistent.{AllConsistent, stepped_is}
+use Rattle.law_run_machine.proofs.Quiet.{Quiet, IsOf, AreOf, quiet_same, quiet_all}
+use Rattle.law_run_machine.proofs.Own.{begun_unheard}
+use Rattle.law_run_machine.specs.Deciding.{tells_aborted}
+use Rattle.law_run_machine.proofs.Asked.{AllHeard, exchanged, named_of, swept_of, steady_exchanged, told_exchanged, heard_exchanged}
+use Rattle.law_run_machine.proofs.Stages.{Stage, Leaves, Does, own_by, begins_response}
+use Rattle.law_run_machine.proofs.Sending.{agent_side, decision_unheard}
 use Rattle.law_run_machine.proofs.Linked.{Untouched, InRound, IsDoing, Linked, AllLinked, linked_later, untouched_quiet, apart, later_apart}
 use Rattle.law_run_machine.proofs.Turns.{Turn, Concerns}
 
@@ -36,7 +37,7 @@ pair_parts a b same = same_Some a b same
 -- ---- a request that is served, as it concerns what its agent is doing
 
 silent_moves : (start : Beginning) (z : ℕ) (home : ℕ → ℕ) (decision : Event) (i : ℕ) (w : World) (asked : Request) (said : Reply) → is_decide asked ≡ true
-    → ((v : replied.Verdict) → said ≡ reply.Verdict v → ⊥) → run start w (moves z home decision i w asked said) ≡ w
+    → ((v : replied.Verdict) → said ≡ reply.Verdict v → ⊥) → run start w (exchanged z home decision i w asked said) ≡ w
 silent_moves start z home decision i w asked said h8 h9 = search arith
 
 of_first : (w : World) (t : ℕ) (outcome : Proposal) (new : Option Change) (suite : GatheredSuite) (first : Option ReadPoint) → IsOf t (decides_first w t outcome new suite first)
@@ -64,19 +65,16 @@ module _ (given : Opening) (z : ℕ) (w : World) (world : worlds.World) (inv : I
   abbrev pub start : Beginning
   start = beginning z given
 
-  -- the event of a request that is served
+  -- the events of a request that is served and heard of
   abbrev pub served_at : Option Doing → ℕ × Request → State → List Event
-  served_at doing asked st = moves z (home_in given) (decision_by z w doing) asked.0 w asked.1 (reply_of st asked.1)
+  served_at doing asked st = exchanged z (home_in given) (decision_by z w doing) asked.0 w asked.1 (reply_of st asked.1)
 
-  tells : (i : ℕ) (st : State) (sent : Stamped Request) (later : World) → server_at world i ≡ Some st → is_full st sent ≡ false → Shows z (home_in given) (servers_of given (with_server i (served st sent) world)) later
+  pub tells : (i : ℕ) (st : State) (sent : Stamped Request) (later : World) → server_at world i ≡ Some st → is_full st sent ≡ false → Shows z (home_in given) (servers_of given (with_server i (served st sent) world)) later
       → steps.Tells z (home_in given) i w later sent.value (reply_of st sent.value)
   tells i st sent later there none shows_later =
-      subst (λ st. is_full st sent ≡ false → Shows z (home_in given) (set1 (servers_of given world) i (serving.step st sent)) later
-      → steps.Tells z (home_in given) i w later sent.value (reply_of st sent.value)) (server_there given world i st there)
-      (λ none shows_later. replies_tell z (home_in given) (servers_of given world) i w later sent shows none shows_later)
+      subst (λ st. is_full st sent ≡ false → steps.Tells z (home_in given) i w later sent.value (reply_of st sent.value)) (server_there given world i st there)
+      (λ none'. replies_tell z (home_in given) (servers_of given world) i w later sent shows none' (subst (λ servers. Shows z (home_in given) servers later) (sym (stepped_is given world i st sent there none)) shows_later))
       none
-      (subst (λ new. Shows z (home_in given) (set1 (servers_of given world) i new) later) (sym (served_is st sent none))
-      (subst (λ servers. Shows z (home_in given) servers later) (sym (servers_set given world i st (served st sent) there)) shows_later))
 
   pub served_concerns : (doing : Option Doing) (asked : ℕ × Request) (stamp : ℕ) (st : State) → next_in (fixed_of given) doing ≡ Some asked → IsDoing z w n count doing
       → server_at world asked.0 ≡ Some st → is_full st (record { stamp = stamp; value = asked.1 }) ≡ false
@@ -88,13 +86,13 @@ module _ (given : Opening) (z : ℕ) (w : World) (world : worlds.World) (inv : I
       let decision = decision_in z w before.task before.suites before.phase in
       let named = asks_in_its_name (fixed_of given) before.task before.suites before.phase asked.0 asked.1 is in
       let later = run start w (served_at (Some (Running before)) asked st) in
+      let unheard = decision_unheard start z w before.task before.suites before.phase in
       record {
         told = only before (λ before. (who : ℕ) → is_some (later.told who before.task.t) ≡ (is_some (w.told who before.task.t) || ((asked.0 == who) && locks z asked.1 && says_held (Replied said))))
-            (λ who. told_served start z (home_in given) decision asked.0 w before.task.t asked.1 said named
-            (λ s same at. upgrade_told z w (fixed_of given) before.task before.suites asked.0 in'.told before.phase before.task.t s (is ∙ ap (λ request. Some (asked.0, request)) same) at)
-            (decision_told start z w before.task before.suites before.phase) who);
+            (told_exchanged start z (home_in given) decision asked.0 w before.task.t asked.1 said named unheard.told);
+        heard = only before (λ before. AllHeard w before.task.t → AllHeard later before.task.t) (heard_exchanged start z (home_in given) decision asked.0 w before.task.t asked.1 said named unheard);
         leaves = only before (λ before. Leaves w later before.task.t asked.1 (Replied said)) (record {
-          calm = λ calm. steady_served start z (home_in given) decision asked.0 w asked.1 said calm;
+          calm = λ calm. steady_exchanged start z (home_in given) decision asked.0 w asked.1 said calm;
           ruled = λ v decide same.
               let d = asking.decides (fixed_of given) before.task before.suites before.phase asked.0 asked.1 is decide in
               let told = tells asked.0 st (record { stamp = stamp; value = asked.1 }) later there none shows_later in
@@ -112,6 +110,7 @@ module _ (given : Opening) (z : ℕ) (w : World) (world : worlds.World) (inv : I
       let same : asked_now (fixed_of given).service sweep_run sweep_run.now ≡ asked = pair_parts _ asked is in
       record {
         told = λ before same. absurd cc;
+        heard = λ before same. absurd cc;
         leaves = λ before same. absurd cc;
         ruled = only_round sweep_run (λ sweep_run. (t : ℕ) (locks : List Lock) (v : replied.Verdict) → sweep_run.now ≡ Resolving t locks → Replied said ≡ Replied (reply.Verdict v) → later.verdict t ≡ Some (ended_as v))
             (λ t locks v now said_v.
@@ -119,7 +118,10 @@ module _ (given : Opening) (z : ℕ) (w : World) (world : worlds.World) (inv : I
             let told = tells asked.0 st (record { stamp = stamp; value = asked.1 }) later there none shows_later in
             subst (λ said. steps.Tells z (home_in given) asked.0 w later (request.Resolve t) said) (said_so said (reply.Verdict v) said_v)
             (subst (λ request. steps.Tells z (home_in given) asked.0 w later request said) (sym (ap (λ (asked : ℕ × Request). asked.1) resolves)) told) (ap (λ (asked : ℕ × Request). asked.0) resolves));
-        quiet = search (apart, quiet_all, next_number, swept_of, asks_to_sweep, arith);
+        quiet = λ u _.
+            quiet_all start w u (u + 1) (served_at (Some (RunningSweep sweep_run)) asked st) (next_number u) obeys
+            (swept_of z (home_in given) (decision_by z w (Some (RunningSweep sweep_run))) asked.0 w (u + 1) asked.1 said
+            (ap (λ (asked : ℕ × Request). may_sweep asked.1) (sym same) ∙ asks_to_sweep (fixed_of given).service sweep_run sweep_run.now));
       }
   served_concerns None asked stamp st is in' there none obeys shows_later = absurd cc
 
@@ -132,7 +134,10 @@ module _ (given : Opening) (z : ℕ) (w : World) (world : worlds.World) (inv : I
       → ((txn_run : TransactionRun) (outcome : Proposal) → doing ≡ Some (Running txn_run) → txn_run.phase ≡ Deciding outcome → w.verdict txn_run.task.t ≡ None → May start w (decision_with z w txn_run.task txn_run.suites outcome))
       → ((txn_run : TransactionRun) (now : ℕ) (left : List ℕ) (outcome : Proposal) → doing ≡ Some (Running txn_run) → txn_run.phase ≡ Preparing (now ∷ left) outcome → now ≡ asked.0 → has_prepared txn_run.task.t held ≡ false)
       → AgentSide start z (home_in given) (decision_by z w doing) asked.0 held w asked.1
-  asks_well (Some (Running before)) asked held is in' may first = search (agent_side, arith)
+  asks_well (Some (Running before)) asked held is in' may first =
+      agent_side start z (home_in given) held w (fixed_of given) before.task before.suites asked.0 in'.ordered (λ i none. in'.heard i (in'.told i ∙ none)) before.phase asked.1 is in'.stage
+      (λ outcome phase none. may before outcome refl phase none)
+      (λ now left outcome phase same. first before now left outcome refl phase same)
   asks_well (Some (RunningSweep sweep_run)) asked held is in' may first = search (pair_parts, round_side, arith)
   asks_well None asked held is in' may first = absurd cc
 
@@ -208,6 +213,10 @@ pub record Begun (start : Beginning) (z : ℕ) (w : World) (n : ℕ) (before : O
   pub now : Linked z (run start w (begun_events z before new.doing)) n new
   pub others : Others w (run start w (begun_events z before new.doing)) n
 
+-- what it does by itself where it begins one is its own
+begun_of : (z : ℕ) (txn_run : TransactionRun) → AreOf txn_run.task.t (begun_events z None (Some (Running txn_run)))
+begun_of z txn_run = search arith
+
 module _ (start : Beginning) (z : ℕ) (w : World) (n : ℕ) (fixed : Fixed) (agent : Agent) (small : n < 64) (linked : Linked z w n agent) where
   -- it was busy, or the job has no sense
   stays_so : Begun start z w n agent.doing agent
@@ -222,7 +231,29 @@ module _ (start : Beginning) (z : ℕ) (w : World) (n : ℕ) (fixed : Fixed) (ag
       (agent.count + 1) after × ((u : ℕ) → (u ≡ 64 * agent.count + agent.index → ⊥) → Quiet w (run start w (begun_events z None after)) u)
 
   began_left : (task : Task) (after : After TransactionRun) → task.t ≡ 64 * agent.count + agent.index → Untouched w task.t → Keeps nothing_held (left Running after) → Does start z task.t w None false agent after → Began (left Running after)
-  began_left task after h2 h3 h4 h5 = search arith
+  began_left task (Ends ending) number untouched keeps does = (tt, tt, λ u _. quiet_same w u)
+  began_left task (GoesOn txn_run) number untouched keeps does =
+      let after : Option Doing = Some (Running txn_run) in
+      let same : txn_run.task.t ≡ task.t = does.stage.0 in
+      let events = begun_events z None after in
+      let as_own : events ≡ own_by z task.t None false agent (GoesOn txn_run) = ap (λ t. aims z t None after ++ cond (tells_aborted txn_run.phase) (GiveUp t ∷ []) []) same in
+      let obeys : Obeys start w events = subst (Obeys start w) (sym as_own) does.does in
+      let unheard = begun_unheard start z None after w in (
+        obeys,
+        record {
+          numbered = by_number txn_run.task.t task.t same number;
+          ordered = keeps.0;
+          told = λ i. ap (λ told. is_some (told i txn_run.task.t)) unheard.told ∙ ap is_some (ap (w.told i) same ∙ untouched.told i) ∙ sym (keeps.1 z i);
+          heard = λ i none. ap (λ f. f i txn_run.task.t) unheard.granted ∙ ap (w.granted i) same ∙ untouched.granted i;
+          stage =
+              subst (λ t. Stage z (run start w events) t txn_run.suites txn_run.phase) (sym same)
+              (subst (λ events. Stage z (run start w events) task.t txn_run.suites txn_run.phase) (sym as_own) does.stage.1);
+        },
+        λ u apart. quiet_all start w u txn_run.task.t events (λ at. apart (at ∙ same ∙ number)) obeys (begun_of z txn_run),
+      )
+    where
+      by_number : (t u : ℕ) → t ≡ u → u ≡ 64 * agent.count + agent.index → t + 64 ≡ 64 * (agent.count + 1) + n
+      by_number t u same is = let at = linked.index in omega (arith, same, is, at)
 
   untouched_first : Untouched w (64 * agent.count + agent.index)
   untouched_first = subst (λ i. Untouched w (64 * agent.count + i)) (sym linked.index) (linked.fresh agent.count (omega arith))

@@ -11,14 +11,14 @@ pub use Rattle.law_runs.specs.Naming.{may_sweep, names}
 pub use Rattle.law_server_moves.proofs.Opening.{aimed_shows, given_up_shows, opening_shows}
 pub use Rattle.law_server_moves.specs.Agents.{AgentSide, Decides}
 pub use Rattle.law_server_moves.specs.Laws.{beginning}
-pub use Rattle.law_server_moves.specs.Moves.{first_verdict, moves, prepare_of}
+pub use Rattle.law_server_moves.specs.Moves.{first_verdict, hears, moves, prepare_of}
 pub use Rattle.law_server_moves.specs.Views.{Shows, ended_as}
 pub use Rattle.law_suite_machine.proofs.Invariant.{Inv}
 pub use Rattle.law_suite_machine.proofs.Places.{another, at1, at2, itself, one_is, one_not}
 pub use Rattle.law_suite_machine.proofs.Steps.{all_steps}
 pub use Rattle.law_suite_machine.specs.Conditions.{IsReady, Knows, May, MayFinish, Obeys}
-pub use Rattle.law_suite_machine.specs.Events.{Aim, DecideElsewhere, DecideRead, DecideRefused, DecideWrite, Event, Finish, GiveUp, Held, Lose, Overrule, Prepare, Upgrade, aimed, decided, given_up, happens, run, upgraded_told}
-pub use Rattle.law_suite_machine.specs.Machine.{Aborted, Answered, Refused, Told, Verdict, World, begun, set1, set2}
+pub use Rattle.law_suite_machine.specs.Events.{Aim, DecideElsewhere, DecideRead, DecideRefused, DecideWrite, Event, Finish, GiveUp, Grant, Hear, Lose, Overrule, Prepare, Raise, aimed, decided, given_up, happens, run}
+pub use Rattle.law_suite_machine.specs.Machine.{Aborted, Answered, Refused, Told, Verdict, World, begun, set1}
 pub use Rattle.law_suite_machine.specs.Registers.{Beginning, Change, Entry, Known}
 pub use Rattle.rep_core.proofs.Finding.{any_find, find_some}
 pub use Rattle.rep_core.proofs.Members.{Has, any_has, contains_from, filter_has, has_any, has_filter, has_from, has_map, map_has}

@@ -1,11 +1,11 @@
 -- In every run a transaction prepares at a server once: event by event.
-use Rattle.law_run_machine.proofs.Vocabulary.{◌≡◌, ℕ, ◌+◌, ◌<◌, ◌≤◌, Bool, true, false, cond, List, ◌∷◌, Option, Some, None, refl, sym, subst, ◌*◌, slice_get, slice_set, same_Some, Opening, Request, Stamped, has_prepared, arith, State, is_prepare}
-use Rattle.law_run_machine.proofs.Vocabulary.{reply_of, answer_of, is_full, served, Response, Replied, Lacked, Job, Fixed, Proposal, Preparing, TransactionRun, Doing, Running, RunningSweep, Agent, fixed_of, next_in, next_of, take, take_in, begin}
-use Rattle.law_run_machine.proofs.Vocabulary.{forget, Begin, Step, Crash, Return, Forget, Lack, Actor, server_at, actor_at, answered, asks_at, asks, steps_once, lacks_for, lacks, operated, operates, becomes, step, World, servers_of}
-use Rattle.rep_core.specs.declared.request.Request.TheVariants as request
-use Rattle.rep_core.specs.declared.stamped.Lack.TheVariants as lack
+use Rattle.law_run_machine.proofs.Vocabulary.{◌≡◌, ℕ, ◌+◌, ◌<◌, ◌≤◌, false, List, ◌∷◌, Option, Some, None, refl, sym, subst, ◌*◌, slice_get, slice_set, same_Some, Opening, Request, has_prepared, arith, State, is_prepare}
+use Rattle.law_run_machine.proofs.Vocabulary.{reply_of, answer_of, served, Response, Replied, Lacked, Fixed, Proposal, Preparing, TransactionRun, Doing, Running, RunningSweep, Agent, fixed_of, next_in, next_of, take, take_in, begin}
+use Rattle.law_run_machine.proofs.Vocabulary.{forget, Actor, actor_at, step, World, servers_of}
 use Rattle.run_core.specs.declared.event.Event as happening
 use Rattle.run_core.specs.Worlds as worlds
+use Rattle.run_core.specs.Worlds.{with_server}
+use Rattle.law_runs.proofs.Moves.{sent, unstamped, of_operator, by_moves}
 use Rattle.law_run_machine.proofs.Linked.{AllLinked, apart, later_apart, numbered_at}
 use Rattle.law_run_machine.proofs.Turned.{set_here, set_apart, same_or, take_same, numbered_of}
 use Rattle.law_run_machine.proofs.Waiting.{Keeps, keeps_same, keeps_served, waits_on, IsWaiting, Waiting, take_waiting, begin_waiting}
@@ -71,69 +71,23 @@ module _ (given : Opening) (z : ℕ) (w : World) (world : worlds.World) (linked 
       (λ txn_run running same. apart u txn_run.task.t number m place actor.agent.count is (numbered_at' number actor there txn_run running) was.0 there'.0 other same)))
       (waiting m x at))
 
-  answered_waiting : (number : ℕ) (actor : Actor) (asked : ℕ × Request) (st : State) → actor_at world number ≡ Some actor → next_of (fixed_of given) actor.agent ≡ Some asked
-      → server_at world asked.0 ≡ Some st → (b : Bool) → is_full st (record { stamp = actor.stamp; value = asked.1 }) ≡ b
-      → AllWaiting given (answered (fixed_of given) world number actor st
-      (cond b None
-      (Some (record {
-        server = asked.0;
-        request = record { stamp = actor.stamp; value = asked.1 };
-        reply = answer_of st
-            (record { stamp = actor.stamp; value = asked.1 });
-      })))).world
-  answered_waiting number actor asked st there next at true is = turn_waiting (servers_of given world) number actor asked (Lacked lack.Full) actor.stamp there next (keeps_same (servers_of given world) asked.0 asked.1)
-  answered_waiting number actor asked st there next at false is =
-      let sent : Stamped Request = record { stamp = actor.stamp; value = asked.1 } in
-      turn_waiting (servers_of given (worlds.with_server asked.0 (served st sent) world)) number actor asked (Replied (reply_of st asked.1)) (answer_of st sent).stamp there next (keeps_served given world asked.0 st sent at is)
-
-  at_waiting : (number : ℕ) (actor : Actor) (asked : ℕ × Request) → actor_at world number ≡ Some actor → next_of (fixed_of given) actor.agent ≡ Some asked → (o : Option State)
-      → server_at world asked.0 ≡ o → AllWaiting given (asks_at (fixed_of given) world number actor asked o).world
-  at_waiting number actor asked there next (Some st) at = answered_waiting number actor asked st there next at (is_full st (record { stamp = actor.stamp; value = asked.1 })) refl
-  at_waiting number actor asked there next None at = waiting
-
-  asks_waiting : (number : ℕ) (actor : Actor) → actor_at world number ≡ Some actor → (o : Option (ℕ × Request)) → next_of (fixed_of given) actor.agent ≡ o → AllWaiting given (asks (fixed_of given) world number actor o).world
-  asks_waiting number actor h2 o h4 = search (at_waiting, arith)
-
-  step_waiting : (number : ℕ) (o : Option Actor) → actor_at world number ≡ o → AllWaiting given (steps_once (fixed_of given) world number o).world
-  step_waiting number o h2 = search (asks_waiting, arith)
-
-  lacks_waiting : (number : ℕ) (actor : Actor) (why : _) → actor_at world number ≡ Some actor → (o : Option (ℕ × Request)) → next_of (fixed_of given) actor.agent ≡ o
-      → AllWaiting given (lacks_for (fixed_of given) world number actor (Lacked why) o).world
-  lacks_waiting number actor why there (Some asked) next = turn_waiting (servers_of given world) number actor asked (Lacked why) actor.stamp there next (keeps_same (servers_of given world) asked.0 asked.1)
-  lacks_waiting number actor why there None next = waiting
-
-  lack_waiting : (number : ℕ) (why : _) (o : Option Actor) → actor_at world number ≡ o → AllWaiting given (lacks (fixed_of given) world number (Lacked why) o).world
-  lack_waiting number why o h3 = search (lacks_waiting, arith)
-
-  -- the operator prepares nothing
-  operated_waiting : (i : ℕ) (asked : Request) (st : State) → ((u : ℕ) → is_prepare u asked ≡ false) → server_at world i ≡ Some st → (b : Bool) → is_full st (record { stamp = 0; value = asked }) ≡ b
-      → AllWaiting given (operated world st (cond b None (Some (record { server = i; request = record { stamp = 0; value = asked }; reply = answer_of st (record { stamp = 0; value = asked }) })))).world
-  operated_waiting i asked st calm there true is = waiting
-  operated_waiting i asked st calm there false is = λ m x at.
-      let keeps = keeps_served given world i st (record { stamp = 0; value = asked }) there is in
-      waiting_on (servers_of given world) _ m x.agent.count x.agent refl (linked m x at).0 (numbered_at' m x at) (λ u place j _. keeps.unprepared u j (calm u)) (waiting m x at)
-
-  operates_waiting : (i : ℕ) (asked : Request) → ((u : ℕ) → is_prepare u asked ≡ false) → (o : Option State) → server_at world i ≡ o → AllWaiting given (operates world i asked o).world
-  operates_waiting i asked h2 o h4 = search (operated_waiting, arith)
-
-  begin_job : (number : ℕ) (job : Job) (o : Option Actor) → actor_at world number ≡ o → AllWaiting given (becomes world number (λ agent. begin (fixed_of given) agent job) o).world
-  begin_job number job (Some actor) there =
-      set_waiting (servers_of given world) number actor (record actor { agent = begin (fixed_of given) actor.agent job }) there
-      (begin_waiting (fixed_of given) actor.agent number (servers_of given world) job (linked number actor there).1.index (waiting number actor there))
-      (λ m x at _. waiting m x at)
-  begin_job number job None there = waiting
-
-  forgets : (number site : ℕ) (o : Option Actor) → actor_at world number ≡ o → AllWaiting given (becomes world number (λ agent. forget agent site) o).world
-  forgets number site (Some actor) there =
-      set_waiting (servers_of given world) number actor (record actor { agent = forget actor.agent site }) there
-      (let is = waiting number actor there in record { fresh = is.fresh; now = is.now })
-      (λ m x at _. waiting m x at)
-  forgets number site None there = waiting
-
   pub waits_next : (event : happening.Event) → AllWaiting given (step (fixed_of given) world event).world
-  waits_next (Begin number job) = begin_job number job (actor_at world number) refl
-  waits_next (Step number) = step_waiting number (actor_at world number) refl
-  waits_next (Crash server) = operates_waiting server request.Crash (λ u. refl) (server_at world server) refl
-  waits_next (Return server) = operates_waiting server request.Return (λ u. refl) (server_at world server) refl
-  waits_next (Forget number site) = forgets number site (actor_at world number) refl
-  waits_next (Lack number why) = lack_waiting number why (actor_at world number) refl
+  waits_next = by_moves (fixed_of given) world (λ _ stepped. AllWaiting given stepped.world) (record {
+    nothing = λ event. waiting;
+    begins = λ number actor job there.
+        set_waiting (servers_of given world) number actor (record actor { agent = begin (fixed_of given) actor.agent job }) there
+        (begin_waiting (fixed_of given) actor.agent number (servers_of given world) job (linked number actor there).1.index (waiting number actor there))
+        (λ m x at _. waiting m x at);
+    forgets = λ number actor site there.
+        set_waiting (servers_of given world) number actor (record actor { agent = forget actor.agent site }) there
+        (let is = waiting number actor there in record { fresh = is.fresh; now = is.now })
+        (λ m x at _. waiting m x at);
+    answers = λ number actor asked st there next at room.
+        turn_waiting (servers_of given (with_server asked.0 (served st (sent actor asked.1)) world)) number actor asked (Replied (reply_of st asked.1)) (answer_of st (sent actor asked.1)).stamp there next
+        (keeps_served given world asked.0 st (sent actor asked.1) at room);
+    lacks = λ event number actor asked why by there next. turn_waiting (servers_of given world) number actor asked (Lacked why) actor.stamp there next (keeps_same (servers_of given world) asked.0 asked.1);
+    operates = λ event server asked st by there room.
+        let keeps = keeps_served given world server st (unstamped asked) there room in λ m x at.
+        waiting_on (servers_of given world) _ m x.agent.count x.agent refl (linked m x at).0 (numbered_at' m x at)
+        (λ u place j _. keeps.unprepared u j (of_operator (λ asked. is_prepare u asked ≡ false) refl refl event server asked by)) (waiting m x at);
+  })

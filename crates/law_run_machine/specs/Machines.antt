@@ -19,7 +19,7 @@ use Rattle.run_core.specs.Worlds.{Actor, server_at, actor_at, serve, step}
 use Rattle.law_suite_machine.specs.Machine.{World, begun}
 use Rattle.law_suite_machine.specs.Events as machine
 use Rattle.law_suite_machine.specs.Events.{run}
-use Rattle.law_server_moves.specs.Moves.{moves}
+use Rattle.law_server_moves.specs.Moves.{moves, hears}
 use Rattle.law_server_moves.specs.Laws.{beginning}
 use Rattle.law_run_machine.specs.Deciding.{decision_by, begun_events, own_events}
 
@@ -37,6 +37,10 @@ home_in given t = home_of (fixed_of given).service t
 abbrev pub served_events : Opening → ℕ → World → Option Doing → Served → List machine.Event
 served_events given z w doing what = moves z (home_in given) (decision_by z w doing) what.server w what.request.value what.reply.value
 
+-- what was served to an agent, and what it heard of its lock by the reply
+abbrev pub exchanged_events : Opening → ℕ → World → Option Doing → Served → List machine.Event
+exchanged_events given z w doing what = served_events given z w doing what ++ hears z what.server what.request.value what.reply.value
+
 -- what an agent does by itself once it took a response
 abbrev pub response_events : Opening → ℕ → Actor → Response → List machine.Event
 response_events given z actor response = own_events z actor.agent.doing (take (fixed_of given) actor.agent response)
@@ -48,7 +52,7 @@ begin_events given z job None = []
 
 -- the request was served, or the server is full
 abbrev pub answered_events : Opening → ℕ → World → Actor → Option Served → List machine.Event
-answered_events given z w actor (Some what) = served_events given z w actor.agent.doing what ++ response_events given z actor (Replied what.reply.value)
+answered_events given z w actor (Some what) = exchanged_events given z w actor.agent.doing what ++ response_events given z actor (Replied what.reply.value)
 answered_events given z w actor None = response_events given z actor (Lacked lack.Full)
 
 abbrev pub asked_at_events : Opening → ℕ → World → Actor → ℕ × Request → Option State → List machine.Event
@@ -80,7 +84,7 @@ operator_events given z w server asked (Some st) = operated_events given z w (se
 operator_events given z w server asked None = []
 
 -- what an event of a world is to the machine of the suite z, which is w so far: what the server does that served a request, and then what the agent
--- does that took the reply
+-- hears and does that took the reply
 abbrev pub events_of : Opening → ℕ → World → worlds.World → Event → List machine.Event
 events_of given z w world (Begin number job) = begin_events given z job (actor_at world number)
 events_of given z w world (Step number) = step_events given z w world (actor_at world number)

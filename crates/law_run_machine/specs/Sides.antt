@@ -19,12 +19,12 @@ use Rattle.law_suite_machine.specs.Conditions.{Obeys}
 use Rattle.law_server_moves.specs.Agents.{AgentSide}
 use Rattle.law_server_moves.specs.Laws.{beginning}
 use Rattle.law_run_machine.specs.Deciding.{decision_by}
-use Rattle.law_run_machine.specs.Machines.{home_in, served_events, response_events, begin_events, moved}
+use Rattle.law_run_machine.specs.Machines.{home_in, exchanged_events, response_events, begin_events, moved}
 
 -- its request was served: it was one that it may make, and after the reply it does what it may
 pub record AskedWell (given : Opening) (z : ℕ) (w : World) (actor : Actor) (locks : List Lock) (what : Served) : Type 0 where
   pub asks : AgentSide (beginning z given) z (home_in given) (decision_by z w actor.agent.doing) what.server locks w what.request.value
-  pub does : Obeys (beginning z given) (run (beginning z given) w (served_events given z w actor.agent.doing what)) (response_events given z actor (Replied what.reply.value))
+  pub does : Obeys (beginning z given) (run (beginning z given) w (exchanged_events given z w actor.agent.doing what)) (response_events given z actor (Replied what.reply.value))
 
 -- what it does by itself once it was told that its request was not served
 abbrev pub DoesWell : Opening → ℕ → World → Actor → Response → Type 0

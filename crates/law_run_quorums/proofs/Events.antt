@@ -1,35 +1,31 @@
 -- In every run collectors hold what machines told: each event of a world.
 use Rattle.law_run_quorums.proofs.Vocabulary.{Opening, Request, Reply, told_at, Task, TransactionRun, Doing, Running, RunningSweep, After, GoesOn, Ends, execute, Agent, fixed_of, next_in, next_of, take, take_in, begin, started, forget, is_idle}
-use Rattle.law_run_quorums.proofs.Vocabulary.{has_sense, max_jobs, left, Leaves, are_nil, leaves_execute, heard_by, Actor, server_at, actor_at, with_server, answered, asks_at, asks, steps_once, lacks_for, lacks, operated, operates, becomes, step}
-use Rattle.law_run_quorums.proofs.Vocabulary.{Beginning, Told, World, set1, is_exclusive, Obeys, Inv, Shows, beginning, decision_by, decision_in, own_events, server_there, servers_set, AllConsistent, served_is, quiet_same, AllLinked, IsDoing}
+use Rattle.law_run_quorums.proofs.Vocabulary.{has_sense, max_jobs, left, Leaves, are_nil, leaves_execute, heard_by, Actor, server_at, actor_at, with_server, answered, step}
+use Rattle.law_run_quorums.proofs.Vocabulary.{Beginning, Told, World, is_exclusive, Obeys, Inv, Shows, beginning, decision_by, decision_in, own_events, AllConsistent, quiet_same, AllLinked, IsDoing}
 use Rattle.law_run_quorums.proofs.Vocabulary.{served_at, served_concerns, lacked_concerns, others_turned, begun_so, told_to, Agrees, DoingAgrees, AllAgree, Replied, Lacked, run}
 use Rattle.txn_core.specs.declared.response.Response.{Response}
 use Rattle.law_server_moves.specs.Moves.{moves}
-use Rattle.std.proofs.Common.{◌≡◌, ℕ, ◌+◌, Bool, true, false, cond, List, [], Option, Some, None, is_some, refl, sym, ap, subst, arith, ◌*◌, ◌&&◌, nat_lt}
-use Rattle.rep_core.specs.declared.stamped.Stamped.{Stamped}
+use Rattle.std.proofs.Common.{◌≡◌, ℕ, ◌+◌, true, false, cond, List, [], Option, Some, None, is_some, sym, ap, subst, arith, ◌*◌, ◌&&◌, nat_lt}
 use Rattle.rep_core.specs.State.{State}
 use Rattle.rep_core.specs.Service.{reply_of}
 use Rattle.rep_core.specs.Serving.{answer_of, is_full, served}
 use Rattle.txn_core.specs.declared.job.Job.{Job}
 use Rattle.txn_core.specs.declared.job.Job.TheVariants.{Transaction, Sweep}
-use Rattle.run_core.specs.declared.event.Event.TheVariants.{Begin, Step, Crash, Return, Forget, Lack}
-use Rattle.law_server_moves.proofs.Replies.{replies_tell}
 use Rattle.law_runs.proofs.Asking.{asks_in_its_name}
-use Rattle.law_run_machine.specs.Machines.{servers_of, home_in, begin_events, answered_events, asked_at_events, asked_events, step_events, lacks_for_events, lack_events, operated_events, operator_events, moved}
-use Rattle.law_run_machine.specs.Sides.{AnsweredWell, AsksAtWell, AsksWell, StepsWell, KeepsSide}
+use Rattle.law_run_machine.specs.Machines.{servers_of, home_in, begin_events, answered_events, moved}
+use Rattle.law_run_machine.specs.Sides.{AskedWell, KeepsSide}
+use Rattle.law_runs.proofs.Moves.{sent, what_of, of_operator}
+use Rattle.law_run_machine.proofs.Moves.{by_moves}
 use Rattle.law_run_machine.proofs.Joining.{run-append}
-use Rattle.law_run_machine.proofs.Own.{own_told, begun_told}
-use Rattle.law_run_machine.proofs.Sending.{decision_told}
+use Rattle.law_run_machine.proofs.Own.{own_unheard, begun_unheard}
+use Rattle.law_run_machine.proofs.Sending.{decision_unheard}
 use Rattle.law_run_machine.proofs.Turns.{turn}
-use Rattle.law_run_machine.proofs.Following.{serves}
+use Rattle.law_run_machine.proofs.Turned.{tells}
+use Rattle.law_run_machine.proofs.Following.{exchanges}
 use Rattle.rep_core.specs.declared.request.Request.TheVariants as request
-use Rattle.rep_core.specs.declared.reply.Reply.TheVariants as reply
-use Rattle.rep_core.specs.declared.stamped.Lack.TheVariants as lack
-use Rattle.rep_core.specs.Serving as serving
 use Rattle.suite_collect.specs.declared.told.Told as collect
 use Rattle.run_core.specs.declared.event.Event as happening
 use Rattle.run_core.specs.Worlds as worlds
-use Rattle.law_server_moves.specs.Laws as steps
 use Rattle.law_run_quorums.proofs.Served.{served_agrees}
 use Rattle.law_run_quorums.proofs.Agreed.{all_agree, take_agrees}
 
@@ -54,16 +50,6 @@ module _ (given : Opening) (z : ℕ) (w : World) (world : worlds.World) (inv : I
   abbrev first : Beginning
   first = beginning z given
 
-  tells : (i : ℕ) (st : State) (sent : Stamped Request) (later : World) → server_at world i ≡ Some st → is_full st sent ≡ false → Shows z (home_in given) (servers_of given (with_server i (served st sent) world)) later
-      → steps.Tells z (home_in given) i w later sent.value (reply_of st sent.value)
-  tells i st sent later there none shows_later =
-      subst (λ st. is_full st sent ≡ false → Shows z (home_in given) (set1 (servers_of given world) i (serving.step st sent)) later
-      → steps.Tells z (home_in given) i w later sent.value (reply_of st sent.value)) (server_there given world i st there)
-      (λ none shows_later. replies_tell z (home_in given) (servers_of given world) i w later sent shows none shows_later)
-      none
-      (subst (λ new. Shows z (home_in given) (set1 (servers_of given world) i new) later) (sym (served_is st sent none))
-      (subst (λ servers. Shows z (home_in given) servers later) (sym (servers_set given world i st (served st sent) there)) shows_later))
-
   -- what a request that was served told the agent
   heard : (doing : Option Doing) (asked : ℕ × Request) (stamp : ℕ) (st : State) (n count : ℕ) → next_in (fixed_of given) doing ≡ Some asked → DoingAgrees z w doing
       → server_at world asked.0 ≡ Some st → is_full st (record { stamp = stamp; value = asked.1 }) ≡ false
@@ -75,9 +61,9 @@ module _ (given : Opening) (z : ℕ) (w : World) (world : worlds.World) (inv : I
       subst (λ (other : TransactionRun). Agrees (told_to (run first w (served_at given z w world inv shows all n count (Some (Running before)) asked st)) other.task.t)
       (heard_by z (told_at other.suites z) asked.0 asked.1 (Replied (reply_of st asked.1)))) (same_only before other same)
       (served_agrees first z (home_in given) (decision_in z w before.task before.suites before.phase) asked.0 w inv.sound
-      (decision_told first z w before.task before.suites before.phase) before.task.t asked.1 (reply_of st asked.1) (told_at before.suites z)
+      (decision_unheard first z w before.task before.suites before.phase).told before.task.t asked.1 (reply_of st asked.1) (told_at before.suites z)
       (asks_in_its_name (fixed_of given) before.task before.suites before.phase asked.0 asked.1 is) obeys
-      (tells asked.0 st (record { stamp = stamp; value = asked.1 }) (run first w (served_at given z w world inv shows all n count (Some (Running before)) asked st)) there none shows_later) agrees)
+      (tells given z w world inv shows all n count asked.0 st (record { stamp = stamp; value = asked.1 }) (run first w (served_at given z w world inv shows all n count (Some (Running before)) asked st)) there none shows_later) agrees)
   heard (Some (RunningSweep sweep_run)) asked stamp st n count is agrees there none obeys shows_later other same = absurd cc
   heard None asked stamp st n count is agrees there none obeys shows_later other same = absurd cc
 
@@ -98,7 +84,7 @@ module _ (given : Opening) (z : ℕ) (w : World) (world : worlds.World) (inv : I
       let own = own_events z actor.agent.doing taken in
       subst (λ o. DoingAgrees z (run first later own) (take_in fixed actor.agent response actor.agent.doing o).agent.doing) (sym next)
       (take_agrees z w (run first later own) number actor.agent.count fixed actor.agent response actor.agent.doing asked next doing
-      (λ before same. same_told later (run first later own) before.task.t _ (own_told first z actor.agent.doing taken later) (agrees before same))
+      (λ before same. same_told later (run first later own) before.task.t _ (own_unheard first z actor.agent.doing taken later).told (agrees before same))
       (subst (λ o. IsDoing z (run first later own) number actor.agent.count (take_in fixed actor.agent response actor.agent.doing o).agent.doing) next after))
 
   lacked_turn : (number : ℕ) (actor : Actor) (asked : ℕ × Request) (why : _) → actor_at world number ≡ Some actor → next_of (fixed_of given) actor.agent ≡ Some asked
@@ -112,66 +98,23 @@ module _ (given : Opening) (z : ℕ) (w : World) (world : worlds.World) (inv : I
       (others_turned first z w w number (fixed_of given) actor.agent (Lacked why) was.0 was.1 it)
 
   answered_next : (number : ℕ) (actor : Actor) (asked : ℕ × Request) (st : State) → actor_at world number ≡ Some actor → next_of (fixed_of given) actor.agent ≡ Some asked
-      → server_at world asked.0 ≡ Some st → (b : Bool) → is_full st (record { stamp = actor.stamp; value = asked.1 }) ≡ b
-      → AnsweredWell given z w actor st (cond b None (Some (record { server = asked.0; request = record { stamp = actor.stamp; value = asked.1 }; reply = answer_of st (record { stamp = actor.stamp; value = asked.1 }) })))
-      → AllAgree z
-      (run first w
-      (answered_events given z w actor
-      (cond b None
-      (Some (record { server = asked.0; request = record { stamp = actor.stamp; value = asked.1 }; reply = answer_of st (record { stamp = actor.stamp; value = asked.1 }) })))))
-      (answered (fixed_of given) world number actor st
-      (cond b None
-      (Some (record {
-        server = asked.0;
-        request = record { stamp = actor.stamp; value = asked.1 };
-        reply = answer_of st
-            (record { stamp = actor.stamp; value = asked.1 });
-      })))).world
-  answered_next number actor asked st there next at true is well = lacked_turn number actor asked lack.Full there next
-  answered_next number actor asked st there next at false is well =
+      → server_at world asked.0 ≡ Some st → is_full st (sent actor asked.1) ≡ false → AskedWell given z w actor st.locks (what_of asked.0 st (sent actor asked.1))
+      → AllAgree z (run first w (answered_events given z w actor (Some (what_of asked.0 st (sent actor asked.1))))) (answered (fixed_of given) world number actor st (Some (what_of asked.0 st (sent actor asked.1)))).world
+  answered_next number actor asked st there next at is well =
       let was = linked number actor there in
       let said = reply_of st asked.1 in
       let events = served_at given z w world inv shows all number actor.agent.count actor.agent.doing asked st in
-      let follows = serves given z w world inv shows all actor.agent.doing asked.0 st (record { stamp = actor.stamp; value = asked.1 }) at is well.asks in
+      let follows = exchanges given z w world inv shows all actor.agent.doing asked.0 st (sent actor asked.1) at is well.asks in
       let later = run first w events in
       let it = turn first z w later number actor.agent.count (fixed_of given) actor.agent asked (Replied said) next was.1.doing
       (served_concerns given z w world inv shows all number actor.agent.count actor.agent.doing asked actor.stamp st next was.1.doing at is follows.obeys follows.shows) in
       let taken = take (fixed_of given) actor.agent (Replied said) in
       let own = own_events z actor.agent.doing taken in
       subst
-      (λ w. AllAgree z w (answered (fixed_of given) world number actor st
-      (Some (record {
-        server = asked.0;
-        request = record { stamp = actor.stamp; value = asked.1 };
-        reply = answer_of st
-            (record { stamp = actor.stamp; value = asked.1 });
-      }))).world) (sym (run-append first w events own))
-      (all_agree z w (run first later own) world number actor (worlds.moved actor (answer_of st (record { stamp = actor.stamp; value = asked.1 })).stamp taken) there linked agree
+      (λ w. AllAgree z w (answered (fixed_of given) world number actor st (Some (what_of asked.0 st (sent actor asked.1)))).world) (sym (run-append first w events own))
+      (all_agree z w (run first later own) world number actor (worlds.moved actor (answer_of st (sent actor asked.1)).stamp taken) there linked agree
       (takes later number actor asked (Replied said) next was.1.doing (heard actor.agent.doing asked actor.stamp st number actor.agent.count next (agree number actor there) at is follows.obeys follows.shows) it.goes_on)
       (others_turned first z w later number (fixed_of given) actor.agent (Replied said) was.0 was.1 it))
-
-  at_next : (number : ℕ) (actor : Actor) (asked : ℕ × Request) → actor_at world number ≡ Some actor → next_of (fixed_of given) actor.agent ≡ Some asked → (o : Option State) → server_at world asked.0 ≡ o → AsksAtWell given z w actor asked o
-      → AllAgree z (run first w (asked_at_events given z w actor asked o)) (asks_at (fixed_of given) world number actor asked o).world
-  at_next number actor asked there next (Some st) at well = answered_next number actor asked st there next at (is_full st (record { stamp = actor.stamp; value = asked.1 })) refl well
-  at_next number actor asked there next None at well = agree
-
-  asks_next : (number : ℕ) (actor : Actor) → actor_at world number ≡ Some actor → (o : Option (ℕ × Request)) → next_of (fixed_of given) actor.agent ≡ o → AsksWell given z w world actor o
-      → AllAgree z (run first w (asked_events given z w world actor o)) (asks (fixed_of given) world number actor o).world
-  asks_next number actor there (Some asked) next well = at_next number actor asked there next (server_at world asked.0) refl well
-  asks_next number actor there None next well = agree
-
-  step_next : (number : ℕ) (o : Option Actor) → actor_at world number ≡ o → StepsWell given z w world o → AllAgree z (run first w (step_events given z w world o)) (steps_once (fixed_of given) world number o).world
-  step_next number (Some actor) there well = asks_next number actor there (next_of (fixed_of given) actor.agent) refl well
-  step_next number None there well = agree
-
-  lacks_next : (number : ℕ) (actor : Actor) (why : _) → actor_at world number ≡ Some actor → (o : Option (ℕ × Request)) → next_of (fixed_of given) actor.agent ≡ o
-      → AllAgree z (run first w (lacks_for_events given z actor (Lacked why) o)) (lacks_for (fixed_of given) world number actor (Lacked why) o).world
-  lacks_next number actor why there (Some asked) next = lacked_turn number actor asked why there next
-  lacks_next number actor why there None next = agree
-
-  lack_next : (number : ℕ) (why : _) (o : Option Actor) → actor_at world number ≡ o → AllAgree z (run first w (lack_events given z (Lacked why) o)) (lacks (fixed_of given) world number (Lacked why) o).world
-  lack_next number why (Some actor) there = lacks_next number actor why there (next_of (fixed_of given) actor.agent) refl
-  lack_next number why None there = agree
 
   -- ---- the operator tells nobody of a copy
 
@@ -183,17 +126,6 @@ module _ (given : Opening) (z : ℕ) (w : World) (world : worlds.World) (inv : I
 
   all_same : (later : World) → later.told ≡ w.told → AllAgree z later world
   all_same later same number actor there = doing_same z w later actor.agent.doing same (agree number actor there)
-
-  operated_next : (i : ℕ) (asked : Request) (st : State) (b : Bool) → ((said : Reply) → (run first w (moves z (home_in given) (decision_by z w None) i w asked said)).told ≡ w.told)
-      → AllAgree z (run first w (operated_events given z w (cond b None (Some (record { server = i; request = record { stamp = 0; value = asked }; reply = answer_of st (record { stamp = 0; value = asked }) })))))
-      (operated world st (cond b None (Some (record { server = i; request = record { stamp = 0; value = asked }; reply = answer_of st (record { stamp = 0; value = asked }) })))).world
-  operated_next i asked st true same = agree
-  operated_next i asked st false same = all_same (run first w (moves z (home_in given) (decision_by z w None) i w asked (reply_of st asked))) (same (reply_of st asked))
-
-  operator_next : (i : ℕ) (asked : Request) (o : Option State) → ((said : Reply) → (run first w (moves z (home_in given) (decision_by z w None) i w asked said)).told ≡ w.told)
-      → AllAgree z (run first w (operator_events given z w i asked o)) (operates world i asked o).world
-  operator_next i asked (Some st) same = operated_next i asked st (is_full st (record { stamp = 0; value = asked })) same
-  operator_next i asked None same = agree
 
   -- ---- what changes agents alone
 
@@ -222,26 +154,29 @@ module _ (given : Opening) (z : ℕ) (w : World) (world : worlds.World) (inv : I
           (leaves_execute (λ number. []) (fixed_of given) task (record { suites = []; cache = agent.cache }) are_nil) doing
       of (Sweep server) doing = tt
 
-  begin_next : (number : ℕ) (job : Job) (o : Option Actor) → actor_at world number ≡ o → AllAgree z (run first w (begin_events given z job o)) (becomes world number (λ agent. begin (fixed_of given) agent job) o).world
-  begin_next number job (Some actor) there =
+  begin_next : (number : ℕ) (actor : Actor) (job : Job) → actor_at world number ≡ Some actor
+      → AllAgree z (run first w (begin_events given z job (Some actor))) (worlds.with_actor number (record actor { agent = begin (fixed_of given) actor.agent job }) world)
+  begin_next number actor job there =
       let was = linked number actor there in
       let it = begun_so first z w number (fixed_of given) actor.agent was.0 was.1 job in
       let later = run first w (begin_events given z job (Some actor)) in
       all_agree z w later world number actor (record actor { agent = begin (fixed_of given) actor.agent job }) there linked agree
-      (doing_same z w later (begin (fixed_of given) actor.agent job).doing (begun_told first z actor.agent.doing (begin (fixed_of given) actor.agent job).doing w)
+      (doing_same z w later (begin (fixed_of given) actor.agent job).doing (begun_unheard first z actor.agent.doing (begin (fixed_of given) actor.agent job).doing w).told
       (began later number actor.agent job (was.1.fresh actor.agent.count (omega arith)).told (agree number actor there) it.now.doing))
       it.others
-  begin_next number job None there = agree
 
-  forget_next : (number site : ℕ) (o : Option Actor) → actor_at world number ≡ o → AllAgree z w (becomes world number (λ agent. forget agent site) o).world
-  forget_next number site (Some actor) there = search (all_agree, quiet_same, arith)
-  forget_next number site None there = agree
+  forget_next : (number : ℕ) (actor : Actor) (site : ℕ) → actor_at world number ≡ Some actor → AllAgree z w (worlds.with_actor number (record actor { agent = forget actor.agent site }) world)
+  forget_next number actor site there = search (all_agree, quiet_same, arith)
 
   -- each event keeps it, where agents keep to their side
   pub event_agrees : (event : happening.Event) → KeepsSide given z w world event → AllAgree z (moved given z w world event) (step (fixed_of given) world event).world
-  event_agrees (Begin number job) well = begin_next number job (actor_at world number) refl
-  event_agrees (Step number) well = step_next number (actor_at world number) refl well
-  event_agrees (Crash server) well = operator_next server request.Crash (server_at world server) (crashed server)
-  event_agrees (Return server) well = operator_next server request.Return (server_at world server) (returned server)
-  event_agrees (Forget number site) well = forget_next number site (actor_at world number) refl
-  event_agrees (Lack number why) well = lack_next number why (actor_at world number) refl
+  event_agrees = by_moves given z w world (λ _ side events stepped. side → AllAgree z (run first w events) stepped.world) (record {
+    nothing = λ _ _. agree;
+    begins = λ number actor job there _. begin_next number actor job there;
+    forgets = λ number actor site there _. forget_next number actor site there;
+    answers = answered_next;
+    lacks = λ event number actor asked why by there next _. lacked_turn number actor asked why there next;
+    operates = λ event server asked st by there room _.
+        all_same (run first w (moves z (home_in given) (decision_by z w None) server w asked (reply_of st asked)))
+        (of_operator (λ asked. (said : Reply) → (run first w (moves z (home_in given) (decision_by z w None) server w asked said)).told ≡ w.told) (crashed server) (returned server) event server asked by (reply_of st asked));
+  })

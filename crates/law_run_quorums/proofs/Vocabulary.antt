@@ -3,10 +3,10 @@ pub use native.Mathlib.Omega.{arith}
 pub use Rattle.std.proofs.lemmas.Bool.{eqb-true, false≢true}
 pub use Rattle.std.proofs.lemmas.Bool.Decides.{nat_tests}
 pub use Rattle.std.proofs.lemmas.Option.{same_Some}
-pub use Rattle.law_run_machine.proofs.Consistent.{AllConsistent, opening_consistent, served_is}
+pub use Rattle.law_run_machine.proofs.Consistent.{AllConsistent, opening_consistent}
 pub use Rattle.law_run_machine.proofs.Linked.{AllLinked, InCourse, IsDoing, numbered_at}
 pub use Rattle.law_run_machine.proofs.Quiet.{Quiet, quiet_same}
-pub use Rattle.law_run_machine.proofs.Servers.{server_there, servers_open, servers_set}
+pub use Rattle.law_run_machine.proofs.Servers.{servers_open}
 pub use Rattle.law_run_machine.proofs.Turned.{Others, begun_so, lacked_concerns, others_turned, same_or, served_at, served_concerns, set_apart, set_here}
 pub use Rattle.law_run_machine.specs.Deciding.{change_to, decision_by, decision_in, known_by, own_events, showed}
 pub use Rattle.law_run_machine.specs.Owed.{AreOwed, OwesKnown, OwesWritten}
@@ -15,12 +15,12 @@ pub use Rattle.law_server_moves.specs.Laws.{Tells, TellsCopy, beginning}
 pub use Rattle.law_server_moves.specs.Views.{Shows}
 pub use Rattle.law_suite_machine.proofs.Invariant.{Inv}
 pub use Rattle.law_suite_machine.specs.Conditions.{CoversContent, CoversPrefix, KeepsContent, Obeys, holds_exclusively, is_exclusive}
-pub use Rattle.law_suite_machine.specs.Events.{Event, Overrule, happens, run, upgraded_told}
-pub use Rattle.law_suite_machine.specs.Machine.{Hold, IsQuorum, Told, Verdict, World, begun, set1, set2}
+pub use Rattle.law_suite_machine.specs.Events.{Event, happens, run}
+pub use Rattle.law_suite_machine.specs.Machine.{Hold, IsQuorum, Told, World, begun, set2}
 pub use Rattle.law_suite_machine.specs.Registers.{Beginning, Change, Known, WasPrefix}
 pub use Rattle.rep_core.specs.declared.reply.Reply.{Reply}
 pub use Rattle.rep_core.specs.declared.request.Request.{Request}
-pub use Rattle.run_core.specs.Worlds.{Actor, actor_at, answered, asks, asks_at, becomes, lacks, lacks_for, operated, operates, server_at, step, steps_once, with_server}
+pub use Rattle.run_core.specs.Worlds.{Actor, actor_at, answered, server_at, step, with_server}
 pub use Rattle.suite_collect.specs.Collecting.{Collector, all_told, needed_of}
 pub use Rattle.suite_collect.specs.declared.told.Said.{Said}
 pub use Rattle.suite_prefix.specs.LockModes.{serves}

@@ -3,6 +3,10 @@ use Rattle.law_run_recovers.proofs.Vocabulary.{◌≡◌, ◌⊎◌, inl, inr, �
 use Rattle.law_run_recovers.proofs.Vocabulary.{Identity, Opening, IsAccepted, Op, Request, State, Transaction, Suites, Fixed, Task, Phase, Doing, Running, request_in, fixed_of, begin, forget, next_in, next_of, Served, Event, Begin, Step, Crash}
 use Rattle.law_run_recovers.proofs.Vocabulary.{Return, Forget, Lack, Actor, World, server_at, actor_at, run, names, may_sweep, agents_ask_for_themselves, machine_of, machine_one, CanBe, holds_after, begins_job, IsMine, can_front, Stands, releases}
 use Rattle.law_run_recovers.proofs.Vocabulary.{doing_of, is_resolve, never_resolves, Carried, carried_by, runs, is_telling, world_after, takes, up_and, of_up, robs, hinders_itself, drops, bereaves}
+use Rattle.law_run_recovers.proofs.Vocabulary.{begun, beginning, all_keep}
+use Rattle.law_run_machine.proofs.Following.{event_comes}
+use Rattle.law_headline.proofs.Stood.{keeps_later}
+use Rattle.run_core.specs.Worlds as worlds
 use Rattle.law_run_alone.proofs.Untold.{begun_stands, started_untold}
 use Rattle.rep_core.specs.declared.request.Request.TheVariants as request
 use Rattle.law_suite_machine.specs.Machine as machine
@@ -120,9 +124,12 @@ module _ (given : Opening) (events later : List Event) (agent t : ℕ) (caller :
       let can' = can_front given (all_of so_far) (event ∷ rest) (can_then so_far (event ∷ rest) is) in
       let at' = subst (λ w. IsAtWork w agent t) (is_run so_far) at in
       let calm = subst (λ w. (hinders_itself given agent w event || (robs given agent t w event || bereaves given agent t w event)) ≡ false) (is_run so_far) (spares so_far rest event is at) in
+      let now = holds_after given (all_of so_far) can' z in
+      let keeps = keeps_later given z (begun (beginning z given)) (worlds.opening given) (all_of so_far) (event ∷ rest) ((all_keep given (all_of so_far ++ event ∷ rest) (can_then so_far (event ∷ rest) is)).keep z) in
+      let may = (event_comes given z (machine_of given z (all_of so_far)) (run given (all_of so_far)) now.inv now.shows now.all event keeps.0).obeys in
       subst (λ all. Stands (machine_of given z all) t) (append_assoc events (Begin agent (Transaction caller site ops) ∷ so_far) (event ∷ []))
       (subst (λ w. Stands w t) (sym (machine_one given z (all_of so_far) event))
-      (untaken_stands given z t (machine_of given z (all_of so_far)) (run given (all_of so_far)) (holds_after given (all_of so_far) can' z).shows stands event (takes_nothing given can.accepted (all_of so_far) agent t at' event calm)))
+      (untaken_stands given z t (machine_of given z (all_of so_far)) (run given (all_of so_far)) now.inv now.shows stands event (takes_nothing given can.accepted (all_of so_far) agent t at' event calm) may))
 
   -- So at each moment at which it is at work its locks stand, in the machine of each suite.
   pub locks_stand : (so_far rest : List Event) → later ≡ so_far ++ rest → IsAtWork (world_at so_far) agent t → (z : ℕ) → Stands (machine_of given z (all_of so_far)) t

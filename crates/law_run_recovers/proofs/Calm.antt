@@ -1,12 +1,14 @@
 -- Sweeps decide nothing, and change nothing that is in effect.
 use Rattle.law_run_recovers.proofs.Vocabulary.{◌≡◌, ℕ, ◌+◌, Bool, true, false, List, [], ◌∷◌, ◌++◌, append-nil, Option, Some, None, is_some, refl, sym, ap, subst, ◌∙◌, ◌==◌, ◌&&◌, not, nat_lt, slice_set, arith, false≢true, and_parts, not-true}
-use Rattle.law_run_recovers.proofs.Vocabulary.{none-some, Opening, Sweep, Lacked, Fixed, SweepRun, Doing, Running, RunningSweep, After, fixed_of, next_in, left, Event, Begin, Step, Forget, Lack, Actor, World, Stepped, actor_at, has_no_job, asks}
+use Rattle.law_run_recovers.proofs.Vocabulary.{none-some, Opening, Sweep, Fixed, SweepRun, Doing, Running, RunningSweep, After, fixed_of, next_in, left, Event, Begin, Step, Actor, World, Stepped, actor_at, has_no_job, asks}
 use Rattle.law_run_recovers.proofs.Vocabulary.{steps_once, step, after, decided, decided_by, task_of, task_at, task_in, puts_in, begins_job, with_job, no_task, hinders, unhindered_from, sweeps, goes_round, Always, SweepsKeepEffectsAt}
-use Rattle.law_run_machine.specs.Machines.{step_events, events_of}
+use Rattle.law_run_machine.specs.Machines.{events_of}
+use Rattle.law_runs.proofs.Moves.{operator_asks}
+use Rattle.run_core.specs.declared.event.Event.TheVariants.{Crash, Return}
 use Rattle.law_suite_machine.specs.Machine as machine
 use Rattle.law_run_recovers.proofs.Aside.{Aside, event_aside}
 use Rattle.law_run_recovers.proofs.OwnStep.{own_step, then_does}
-use Rattle.law_run_recovers.proofs.Quiet.{AllQuiet, all_both, quiet_begin, quiet_lack, Calm, effects_stay, decisions_stay}
+use Rattle.law_run_recovers.proofs.Quiet.{AllQuiet, all_both, quiet_event, Calm, effects_stay, decisions_stay}
 
 -- ---- who has no transaction decides nothing
 
@@ -26,18 +28,13 @@ module _ (given : Opening) (agent : ℕ) where
   stepper : (w : World) (other : ℕ) (served : Bool) (found : Option Actor) → actor_at w other ≡ found → (not (has_no_job found) && not ((other == agent) && served)) ≡ false → HasNoTask w → task_at found ≡ None
   stepper w other served found h4 h5 h6 = search arith
 
-  quiet_step : (z : ℕ) (m : machine.World) (w : World) (found : Option Actor) → task_at found ≡ None → AllQuiet (step_events given z m w found)
-  quiet_step z m w found h4 = search arith
-
-  quiet_event : (w : World) (event : Event) → hinders given agent w event ≡ false → HasNoTask w → (z : ℕ) (m : machine.World) → AllQuiet (events_of given z m w event)
-  quiet_event w (Begin other job) calm none z m = quiet_begin given z m job (actor_at w other)
-  quiet_event w (Step other) calm none z m = quiet_step z m w (actor_at w other) (stepper w other (is_some (step fixed w (Step other)).done.served) (actor_at w other) refl calm none)
-  quiet_event w (Forget other site) calm none z m = refl
-  quiet_event w (Lack other why) calm none z m = quiet_lack given z m (Lacked why) (actor_at w other)
-  quiet_event w other calm none z m = absurd (false≢true (sym calm))
-
   none_in : (w : World) (event : Event) → hinders given agent w event ≡ false → HasNoTask w → task_in w event ≡ None
   none_in w event h2 h3 = search (stepper, arith)
+
+  asks_none : (w : World) (event : Event) → hinders given agent w event ≡ false → operator_asks event ≡ None
+  asks_none w (Crash server) calm = absurd (false≢true (sym calm))
+  asks_none w (Return server) calm = absurd (false≢true (sym calm))
+  asks_none w other calm = refl
 
   decides_none : (w : World) (event : Event) → task_in w event ≡ None → decided fixed w event ≡ None
   decides_none w event none = ap (λ task. decided_by w task (step fixed w event).done.served) none ∙ no_task w (step fixed w event).done.served
@@ -74,7 +71,7 @@ module _ (given : Opening) (agent : ℕ) where
   calm_all (event ∷ events) later w none calm rest =
       let parts = and_parts (not (hinders given agent w event)) (unhindered_from given agent (step fixed w event).world events) calm in
       let quiet = not-true (hinders given agent w event) parts.0 in
-      calm_more w event (events ++ later) (quiet_event w event quiet none) (none_in w event quiet none) (calm_all events later (step fixed w event).world (still_none w event quiet none) parts.1 rest)
+      calm_more w event (events ++ later) (λ z m. quiet_event given z m w event (asks_none w event quiet) (none_in w event quiet none)) (none_in w event quiet none) (calm_all events later (step fixed w event).world (still_none w event quiet none) parts.1 rest)
 
   -- ---- a sweep begins
 
@@ -85,7 +82,7 @@ module _ (given : Opening) (agent : ℕ) where
       → unhindered_from given agent (step fixed w (Begin agent (Sweep server))).world events ≡ true
       → Calm given (after fixed (step fixed w (Begin agent (Sweep server))).world events) later → Calm given w (Begin agent (Sweep server) ∷ events ++ later)
   calm_sweep w server events later begins calm rest =
-      calm_more w (Begin agent (Sweep server)) (events ++ later) (λ z m. quiet_begin given z m (Sweep server) (actor_at w agent)) refl
+      calm_more w (Begin agent (Sweep server)) (events ++ later) (λ z m. quiet_event given z m w (Begin agent (Sweep server)) refl refl) refl
       (calm_all events later (step fixed w (Begin agent (Sweep server))).world (begun_none w server begins) calm rest)
 
   pub calm_end : (w : World) → Calm given w []

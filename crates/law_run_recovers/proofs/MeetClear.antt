@@ -7,6 +7,9 @@ use Rattle.law_run_recovers.proofs.Vocabulary.{machine_one, all_shown, row_shown
 use Rattle.law_run_recovers.proofs.Vocabulary.{puts_in, slice_get, slice_set, Begun, locks_at, locks_in, ⊎_elim, lock_at, hold_of, decides_first, decides_on, decision_by, decision_in, decision_with, AreOwed, Owed, Owes, OwesFirst, OwesWritten}
 use Rattle.law_run_recovers.proofs.Vocabulary.{decision_of_actor, agents_owe, AllOthers}
 use Rattle.law_suite_machine.proofs.Knowing.{still_locked}
+use Rattle.law_suite_machine.proofs.Starting.{begins}
+use Rattle.law_run_machine.specs.Machines.{history_of}
+use Rattle.law_run_machine.proofs.Following.{machines_follow}
 use Rattle.law_headline.proofs.Beside.{is_ready_now}
 use Rattle.law_headline.proofs.Unbroken.{AllAsTold, AsTold, as_told}
 use Rattle.rep_core.specs.declared.request.Request.TheVariants as request
@@ -32,10 +35,11 @@ owed_then : (given : Opening) (z : ℕ) (w : machine.World) (world : World) (eve
 owed_then given z w world [] event owes = owes.0
 owed_then given z w world (one ∷ events) event owes = owed_then given z (machines.moved given z w world one) (step (fixed_of given) world one).world events event owes.1
 
-as_told_then : (given : Opening) (z : ℕ) (w : machine.World) (world : World) (events : List Event) → AllAsTold w → AllAsTold (machines.machine_from given z w world events)
-as_told_then given z w world [] all = all
-as_told_then given z w world (event ∷ events) all =
-    as_told_then given z (machines.moved given z w world event) (step (fixed_of given) world event).world events (as_told (beginning z given) w (machines.events_of given z w world event) all)
+-- each lock is exclusive where its transaction was told so
+as_told_then : (given : Opening) (z : ℕ) (events : List Event) → CanBe given events → AllAsTold (machine_of given z events)
+as_told_then given z events can =
+    let follows = machines_follow given z events can.c0 ((all_keep given events can).keep z) in
+    subst AllAsTold (sym follows.is) (as_told (beginning z given) (machine.begun (beginning z given)) (begins (beginning z given) follows.begins) (history_of given z events) follows.obeys (λ i t. tt))
 
 -- ---- who writes a suite has it locked
 
@@ -117,7 +121,7 @@ module _ (given : Opening) (all : List Event) (number : ℕ) (can : CanBe given 
       let told = told_exclusive (w.told i t) voter.inside in
       let ready = is_ready_now given z w (run given all) now so.number so.actor so.txn_run so.outcome so.there so.running so.deciding none_yet in
       let held = still_locked w now.inv.sound t ready i told.0 told.1 in
-      let as' = subst (AsTold (w.told i t)) held.1 (as_told_then given z (machine.begun (beginning z given)) (opening given) all (λ i t. tt) i t) in
+      let as' = subst (AsTold (w.told i t)) held.1 (as_told_then given z all (can_front given all (Step number ∷ []) can) i t) in
       locked_in given (run given all) t z i held.0 (sym ((now.shows.at i).lock t) ∙ held.1) (as_told_one (w.told i t) held.0 as' voter.inside)
 
   -- ---- so what it leaves of a suite that it has not locked so

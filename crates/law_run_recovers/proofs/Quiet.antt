@@ -1,7 +1,13 @@
 -- Events that decide nothing change nothing that is in effect.
-use Rattle.law_run_recovers.proofs.Vocabulary.{◌≡◌, ℕ, Bool, true, false, List, [], ◌∷◌, ◌++◌, append-nil, Option, refl, sym, ap, subst, ◌∙◌, list_all, false≢true, and_parts, Opening, arith, Request, Job, Response, Doing, SweepRun, asked_now, Taken}
-use Rattle.law_run_recovers.proofs.Vocabulary.{fixed_of, Actor, opening, decisions, decisions_from, decisions_from-append, Beginning, Aborted, effect, begun, Inv, beginning, own_events, begin_events, lacks_for_events, lack_events, history_from}
-use Rattle.law_run_recovers.proofs.Vocabulary.{machine_of, history_of, run-append, AllKeepSides, copy_at, earlier, CanBe, all_keep}
+use Rattle.law_run_recovers.proofs.Vocabulary.{◌≡◌, ℕ, Bool, true, false, List, [], ◌∷◌, ◌++◌, append-nil, Option, Some, None, refl, sym, ap, subst, ◌∙◌, list_all, false≢true, and_parts, none-some, same_Some, Opening, arith, Request, Reply, State, reply_of, Replied, Lacked}
+use Rattle.law_run_recovers.proofs.Vocabulary.{Doing, Running, RunningSweep, Taken, begin, take, next_in, next_of, fixed_of, Actor, opening, decisions, decisions_from, decisions_from-append, task_of, task_at, task_in, may_sweep}
+use Rattle.law_run_recovers.proofs.Vocabulary.{Beginning, Aborted, effect, begun, Inv, beginning, decision_by, own_events, home_in, history_from, machine_of, history_of, run-append, AllKeepSides, copy_at, earlier, CanBe, all_keep}
+use Rattle.law_runs.proofs.Asking.{asks_to_sweep}
+use Rattle.law_runs.proofs.Moves.{sent, what_of, operator_asks}
+use Rattle.law_run_machine.specs.Deciding.{begun_events}
+use Rattle.law_run_machine.specs.Machines.{answered_events, events_of}
+use Rattle.law_run_machine.proofs.Asked.{exchanged}
+use Rattle.law_run_machine.proofs.Moves.{by_moves}
 use Rattle.law_suite_machine.specs.Events.{Prepare, DecideRead, DecideRefused, DecideWrite, DecideElsewhere, Overrule, Finish, happens, Event, run}
 use Rattle.law_suite_machine.specs.Conditions.{May, Obeys}
 use Rattle.law_suite_machine.proofs.Preparing.{prepared_effect}
@@ -54,20 +60,35 @@ quiet_own z before taken = search arith
 
 -- ---- events of a world
 
-module _ (given : Opening) (z : ℕ) (w : World) where
-  pub quiet_begin : (job : Job) (found : Option Actor) → AllQuiet (begin_events given z job found)
-  quiet_begin job found = search arith
+quiet_begin : (z : ℕ) (before after : Option Doing) → AllQuiet (begun_events z before after)
+quiet_begin z before after = search arith
 
-  quiet_lacks_for : (actor : Actor) (response : Response) (asked : Option (ℕ × Request)) → AllQuiet (lacks_for_events given z actor response asked)
-  quiet_lacks_for actor response asked = search (quiet_own, arith)
+-- what a sweep asks decides nothing
+quiet_swept : (z : ℕ) (home : ℕ → ℕ) (decision : Event) (i : ℕ) (w : World) (asked : Request) (said : Reply) → may_sweep asked ≡ true → AllQuiet (exchanged z home decision i w asked said)
+quiet_swept z home decision i w asked said h7 = search arith
 
-  pub quiet_lack : (response : Response) (found : Option Actor) → AllQuiet (lack_events given z response found)
-  quiet_lack response found = search (quiet_lacks_for, arith)
+module _ (given : Opening) (z : ℕ) (w : World) (world : worlds.World) where
+  quiet_answered : (actor : Actor) (asked : ℕ × Request) (st : State) → next_of (fixed_of given) actor.agent ≡ Some asked → task_of actor.agent.doing ≡ None → AllQuiet (answered_events given z w actor (Some (what_of asked.0 st (sent actor asked.1))))
+  quiet_answered actor asked st next none =
+      all_both (exchanged z (home_in given) (decision_by z w actor.agent.doing) asked.0 w asked.1 (reply_of st asked.1)) (own_events z actor.agent.doing (take (fixed_of given) actor.agent (Replied (reply_of st asked.1))))
+      (quiet_swept z (home_in given) (decision_by z w actor.agent.doing) asked.0 w asked.1 (reply_of st asked.1) (sweeps actor.agent.doing next none))
+      (quiet_own z actor.agent.doing (take (fixed_of given) actor.agent (Replied (reply_of st asked.1))))
+    where
+      sweeps : (doing : Option Doing) → next_in (fixed_of given) doing ≡ Some asked → task_of doing ≡ None → may_sweep asked.1 ≡ true
+      sweeps (Some (Running txn_run)) next none = absurd (none-some txn_run.task (sym none))
+      sweeps (Some (RunningSweep sweep_run)) next none = ap (λ (asked : ℕ × Request). may_sweep asked.1) (sym (same_Some _ asked next)) ∙ asks_to_sweep (fixed_of given).service sweep_run sweep_run.now
+      sweeps None next none = absurd (none-some asked next)
 
-  -- a step of an agent that sweeps
-  module _ (world : worlds.World) (actor : Actor) (sweep_run : SweepRun) where
-    abbrev asked : ℕ × Request
-    asked = asked_now (fixed_of given).service sweep_run sweep_run.now
+  -- an event of no transaction, and of no operator
+  pub quiet_event : (event : happening.Event) → operator_asks event ≡ None → task_in world event ≡ None → AllQuiet (events_of given z w world event)
+  quiet_event = by_moves given z w world (λ event _ events _. operator_asks event ≡ None → task_in world event ≡ None → AllQuiet events) (record {
+    nothing = λ event _ _. refl;
+    begins = λ number actor job there _ _. quiet_begin z actor.agent.doing (begin (fixed_of given) actor.agent job).doing;
+    forgets = λ number actor site there _ _. refl;
+    answers = λ number actor asked st there next at room _ none. quiet_answered actor asked st next (ap task_at (sym there) ∙ none);
+    lacks = λ event number actor asked why by there next _ _. quiet_own z actor.agent.doing (take (fixed_of given) actor.agent (Lacked why));
+    operates = λ event server asked st by there room none _. absurd (none-some (server, asked) (sym none ∙ by));
+  })
 
 -- ---- a run goes on
 

@@ -1,9 +1,9 @@
 -- What an event serves, if anything; and that whoever has a lock at a server was told so there.
 use Rattle.law_run_recovers.proofs.Vocabulary.{◌≡◌, ◌⊎◌, inl, inr, ⊎_elim, ℕ, Bool, true, false, cond, List, Option, Some, None, refl, sym, ap, subst, ◌∙◌, ◌==◌, ◌&&◌, not, filter, map, slice_get, slice_set, LockMode, Exclusive, Replica, arith, Lock}
 use Rattle.law_run_recovers.proofs.Vocabulary.{Request, Reply, Verdict, Stamped, AuditItem, in_the_way, has_lock, raised, raised_lock, with_lock, before, prepared_lock, is_own, copy_of, intended, State, record_of, is_full, served, answer_of, Has}
-use Rattle.law_run_recovers.proofs.Vocabulary.{has_filter, has_between, has_map, Lacked, Fixed, Agent, Event, Crash, Return, Served, Actor, World, Stepped, server_at, serve, answered, becomes, asks_at, asks, steps_once, lacks, operated, operates}
+use Rattle.law_run_recovers.proofs.Vocabulary.{has_filter, has_between, has_map, Fixed, Event, Served, World, Stepped, server_at}
 use Rattle.law_run_recovers.proofs.Vocabulary.{step, same_or, puts_in, locks_in, locks_at}
-use Rattle.rep_core.specs.declared.stamped.Lack.{Lack as Why}
+use Rattle.law_runs.proofs.Moves.{sent, unstamped, by_moves}
 use Rattle.rep_core.specs.Service.{after, reply_of, reply_up, reply_down, after_up, after_down, after_locking, locking_reply, held, after_record, prepares}
 use Rattle.rep_core.specs.declared.request.Request.TheVariants as request
 
@@ -110,41 +110,15 @@ abbrev pub Serving : World → Stepped → Type 0
 Serving w stepped = (stepped.world.servers ≡ w.servers) ⊎ Serves w stepped
 
 module _ (fixed : Fixed) (w : World) where
-  answered_serves : (i : ℕ) (actor : Actor) (target : ℕ) (st : State) (asked : Stamped Request) → server_at w target ≡ Some st → Serving w (answered fixed w i actor st (serve target st asked))
-  answered_serves i actor target st asked at =
-      elim (is_full st asked) as (λ b. is_full st asked ≡ b → Serving w (answered fixed w i actor st (cond b None (Some (record { server = target; request = asked; reply = answer_of st asked }))))) [
-        | true ↦ λ _. inl refl
-        | false ↦ λ room. inr (record { target = target; st = st; asked = asked; at = at; servers = refl; done = refl; room = room })
-      ] refl
-
-  operated_serves : (target : ℕ) (st : State) (asked : Stamped Request) → server_at w target ≡ Some st → Serving w (operated w st (serve target st asked))
-  operated_serves target st asked at =
-      elim (is_full st asked) as (λ b. is_full st asked ≡ b → Serving w (operated w st (cond b None (Some (record { server = target; request = asked; reply = answer_of st asked }))))) [
-        | true ↦ λ _. inl refl
-        | false ↦ λ room. inr (record { target = target; st = st; asked = asked; at = at; servers = refl; done = refl; room = room })
-      ] refl
-
-  becomes_serves : (i : ℕ) (change : Agent → Agent) (found : Option Actor) → Serving w (becomes w i change found)
-  becomes_serves i change found = search arith
-
-  at_serves : (i : ℕ) (actor : Actor) (asked : ℕ × Request) (found : Option State) → server_at w asked.0 ≡ found → Serving w (asks_at fixed w i actor asked found)
-  at_serves i actor asked None at = inl refl
-  at_serves i actor asked (Some st) at = answered_serves i actor asked.0 st (record { stamp = actor.stamp; value = asked.1 }) at
-
-  asks_serves : (i : ℕ) (actor : Actor) (asked : Option (ℕ × Request)) → Serving w (asks fixed w i actor asked)
-  asks_serves i actor asked = search (at_serves, arith)
-
-  step_serves : (i : ℕ) (found : Option Actor) → Serving w (steps_once fixed w i found)
-  step_serves i found = search (asks_serves, arith)
-
-  lacks_serve : (i : ℕ) (why : Why) (found : Option Actor) → Serving w (lacks fixed w i (Lacked why) found)
-  lacks_serve i why found = search arith
-
-  operates_serve : (server : ℕ) (asked : Request) (found : Option State) → server_at w server ≡ found → Serving w (operates w server asked found)
-  operates_serve server asked found h3 = search (operated_serves, arith)
-
   pub event_serves : (event : Event) → Serving w (step fixed w event)
-  event_serves event = search (becomes_serves, step_serves, operates_serve, lacks_serve, arith)
+  event_serves = by_moves fixed w (λ event stepped. Serving w stepped) (record {
+    nothing = λ event. inl refl;
+    begins = λ number actor job there. inl refl;
+    forgets = λ number actor site there. inl refl;
+    answers = λ number actor asked st there next at room. inr (record { target = asked.0; st = st; asked = sent actor asked.1; at = at; servers = refl; done = refl; room = room });
+    lacks = λ event number actor asked why by there next. inl refl;
+    operates = λ event server asked st by there room. inr (record { target = server; st = st; asked = unstamped asked; at = there; servers = refl; done = refl; room = room });
+  })
 
   -- who has a lock after it had one before, or was told so in it
   pub record Told (event : Event) (t server : ℕ) : Type 0 where

@@ -1,17 +1,22 @@
 -- An event that takes nothing of a transaction leaves the locks standing that it was told of, whoever asks for it.
-use Rattle.law_run_recovers.proofs.Vocabulary.{◌≡◌, ℕ, Bool, true, false, cond, List, [], ◌∷◌, Option, Some, None, refl, sym, ap, subst, ◌∙◌, ◌==◌, ◌&&◌, ◌||◌, not, find, unwrap_or, list_any, false≢true, and_parts, eqb-true, none-some, arith}
-use Rattle.law_run_recovers.proofs.Vocabulary.{Opening, Lock, Request, Reply, Stamped, is_own, lock_at, State, reply_of, is_full, answer_of, find_some, has_any, Job, Replied, Lacked, fixed_of, next_of, take, Served, Event, Begin, Step, Crash, Return}
-use Rattle.law_run_recovers.proofs.Vocabulary.{Forget, Lack, Actor, server_at, actor_at, answered, asks_at, asks, steps_once, operated, operates, step, Beginning, ended_as, hold_of, ShowsAt, Shows, beginning, decision_by, own_events, run-append}
-use Rattle.law_run_recovers.proofs.Vocabulary.{Stands, Spares, AllSpare, stands_all, spare_own, spare_decision, spare_moves, takes, drops, and_from, or_parts, eq-eqb}
+use Rattle.law_run_recovers.proofs.Vocabulary.{◌≡◌, ℕ, Bool, true, false, List, [], ◌∷◌, ◌++◌, Option, Some, None, refl, sym, ap, subst, ◌∙◌, ◌==◌, ◌&&◌, ◌||◌, not, cond, find, unwrap_or, list_any, false≢true, and_parts, eqb-true, none-some, arith}
+use Rattle.law_run_recovers.proofs.Vocabulary.{Opening, Lock, Request, Reply, is_own, lock_at, State, reply_of, find_some, has_any, Replied, Lacked, fixed_of, begin, take, Served, Event, server_at}
+use Rattle.law_run_recovers.proofs.Vocabulary.{step, Beginning, Inv, ended_as, hold_of, ShowsAt, Shows, beginning, decision_by, own_events, run-append}
+use Rattle.law_run_recovers.proofs.Vocabulary.{Stands, Spares, AllSpare, stands_all, spare_begun, spare_own, spare_decision, spare_moves, takes, drops, and_from, or_parts, eq-eqb}
+use Rattle.law_suite_machine.specs.Conditions.{Obeys}
 use Rattle.law_suite_machine.specs.Events.{kept, lost, finished, run}
-use Rattle.law_server_moves.specs.Moves.{left_by_break, left_by_crash, moves, is_prepared}
-use Rattle.rep_core.specs.declared.stamped.Lack.{Lack as Why}
+use Rattle.law_suite_machine.proofs.Steps.{all_steps}
+use Rattle.law_server_moves.specs.Moves.{left_by_break, left_by_crash, moves, hears, is_prepared}
 use Rattle.law_suite_machine.specs.Machine.{Hold, Verdict, World}
-use Rattle.law_run_machine.specs.Machines.{moved, home_in, servers_of, answered_events, asked_at_events, asked_events, step_events, lack_events, begin_events, operated_events, operator_events}
+use Rattle.law_run_machine.specs.Machines.{moved, home_in, servers_of, begin_events, response_events, events_of}
+use Rattle.law_runs.proofs.Moves.{sent, unstamped, what_of}
+use Rattle.law_run_machine.proofs.Asked.{exchanged, hears_as}
+use Rattle.law_run_machine.proofs.Joining.{obeys_first}
+use Rattle.law_run_machine.proofs.Moves.{by_moves}
+use Rattle.run_core.specs.Worlds.{Stepped}
 use Rattle.rep_core.specs.declared.request.Request.TheVariants as request
 use Rattle.rep_core.specs.declared.reply.Reply.TheVariants as reply
 use Rattle.rep_core.specs.declared.reply.Verdict as replied
-use Rattle.rep_core.specs.declared.stamped.Lack.TheVariants as lack
 use Rattle.rep_core.specs.State as state
 use Rattle.run_core.specs.Worlds as worlds
 use Rattle.law_suite_machine.specs.Events as machine
@@ -68,26 +73,42 @@ module _ (z t i : ℕ) (w : World) (st : State) (shows : ShowsAt z st w i) (stan
   crash_stands calm = search (stands_lose, or_there, eqb-true, found_prepared, and_from, own_t, arith)
 
   -- a reply to a request that takes nothing
-  module _ (start : Beginning) (home : ℕ → ℕ) (decision : machine.Event) (spares : Spares decision) where
+  module _ (start : Beginning) (inv : Inv start w) (home : ℕ → ℕ) (decision : machine.Event) (spares : Spares decision) where
+    abbrev events_at : Request → Reply → List machine.Event
+    events_at asked said = moves z home decision i w asked said
+
     abbrev After : Request → Reply → Type 0
-    After asked said = Stands (run start w (moves z home decision i w asked said)) t
+    After asked said = Obeys start w (events_at asked said) → Stands (run start w (events_at asked said)) t
 
-    plain : (asked : Request) (said : Reply) → AllSpare (moves z home decision i w asked said) → After asked said
-    plain asked said all = stands_all start w (moves z home decision i w asked said) t all stands
+    plain : (asked : Request) (said : Reply) → AllSpare (events_at asked said) → After asked said
+    plain asked said all may = stands_all start w inv (events_at asked said) may t all stands
 
-    pub moves_stand : (asked : Request) (said : Reply) → (said ≡ reply.Done → (takes t st asked ≡ false) × (drops t st asked ≡ false)) → Stands (run start w (moves z home decision i w asked said)) t
-    moves_stand (request.Poll u suite mode) said calm = plain (request.Poll u suite mode) said (spare_moves z home decision spares i w (request.Poll u suite mode) said refl)
-    moves_stand (request.Upgrade u suite) said calm = plain (request.Upgrade u suite) said (spare_moves z home decision spares i w (request.Upgrade u suite) said refl)
-    moves_stand (request.Fetch u suite) said calm = plain (request.Fetch u suite) said (spare_moves z home decision spares i w (request.Fetch u suite) said refl)
-    moves_stand (request.Prepare u parts) said calm = plain (request.Prepare u parts) said (spare_moves z home decision spares i w (request.Prepare u parts) said refl)
-    moves_stand (request.Decide u decided) said calm = plain (request.Decide u decided) said (spare_moves z home decision spares i w (request.Decide u decided) said refl)
-    moves_stand (request.Resolve u) said calm = plain (request.Resolve u) said (spare_moves z home decision spares i w (request.Resolve u) said refl)
-    moves_stand request.Locks said calm = plain request.Locks said (spare_moves z home decision spares i w request.Locks said refl)
-    moves_stand request.Return said calm = plain request.Return said (spare_moves z home decision spares i w request.Return said refl)
-    moves_stand (request.Finish u v) reply.Done calm = finish_stands u v (ended_as v) (calm refl).0
-    moves_stand (request.Break u suite) reply.Done calm = search (break_stands, eqb-true, arith)
-    moves_stand request.Crash reply.Done calm = crash_stands (calm refl).1
-    moves_stand another other calm = stands
+    pub moves_stand : (asked : Request) (said : Reply) → (said ≡ reply.Done → (takes t st asked ≡ false) × (drops t st asked ≡ false)) → After asked said
+    moves_stand (request.Poll u suite mode) said calm may = plain (request.Poll u suite mode) said (spare_moves z home decision spares i w (request.Poll u suite mode) said refl) may
+    moves_stand (request.Upgrade u suite) said calm may = plain (request.Upgrade u suite) said (spare_moves z home decision spares i w (request.Upgrade u suite) said refl) may
+    moves_stand (request.Fetch u suite) said calm may = plain (request.Fetch u suite) said (spare_moves z home decision spares i w (request.Fetch u suite) said refl) may
+    moves_stand (request.Prepare u parts) said calm may = plain (request.Prepare u parts) said (spare_moves z home decision spares i w (request.Prepare u parts) said refl) may
+    moves_stand (request.Decide u decided) said calm may = plain (request.Decide u decided) said (spare_moves z home decision spares i w (request.Decide u decided) said refl) may
+    moves_stand (request.Resolve u) said calm may = plain (request.Resolve u) said (spare_moves z home decision spares i w (request.Resolve u) said refl) may
+    moves_stand request.Locks said calm may = plain request.Locks said (spare_moves z home decision spares i w request.Locks said refl) may
+    moves_stand request.Return said calm may = plain request.Return said (spare_moves z home decision spares i w request.Return said refl) may
+    moves_stand (request.Finish u v) reply.Done calm may = finish_stands u v (ended_as v) (calm refl).0
+    moves_stand (request.Break u suite) reply.Done calm may =
+        elim (z == suite) as (λ b. (z == suite) ≡ b → Stands (run start w (cond b (machine.Lose (left_by_break w i u) ∷ []) [])) t) [
+          | true ↦ λ same. break_stands u (subst (λ s. takes t st (request.Break u s) ≡ false) (sym (eqb-true z suite same)) (calm refl).0)
+          | false ↦ λ _. stands
+        ] refl
+    moves_stand request.Crash reply.Done calm may = crash_stands (calm refl).1
+    moves_stand another other calm may = stands
+
+    -- and its agent hears
+    pub exchange_stands : (asked : Request) (said : Reply) → (said ≡ reply.Done → (takes t st asked ≡ false) × (drops t st asked ≡ false)) → Obeys start w (exchanged z home decision i w asked said)
+        → Stands (run start w (exchanged z home decision i w asked said)) t
+    exchange_stands asked said calm may =
+        let parts = obeys_first start w (events_at asked said) (hears z i asked said) may in
+        subst (λ w. Stands w t) (sym (run-append start w (events_at asked said) (hears z i asked said)))
+        (stands_all start (run start w (events_at asked said)) (all_steps start w inv (events_at asked said) parts.0) (hears z i asked said) parts.1 t
+        (hears_as z i AllSpare asked said (λ _. tt) (λ t exclusive _ _. (tt, tt))) (moves_stand asked said calm parts.0))
 
 -- ---- in a world
 
@@ -102,77 +123,33 @@ untaken_done t st asked untaken = search arith
 abbrev pub TakesNothing : Opening → ℕ → worlds.World → Event → Type 0
 TakesNothing given t world event = (what : Served) (st : State) → (step (fixed_of given) world event).done.served ≡ Some what → server_at world what.server ≡ Some st → Untaken t st what.request.value
 
-module _ (given : Opening) (z t : ℕ) (w : World) (world : worlds.World) (shows : Shows z (home_in given) (servers_of given world) w) (stands : Stands w t) where
-  abbrev Later : List machine.Event → Type 0
-  Later events = Stands (run (beginning z given) w events) t
-
+module _ (given : Opening) (z t : ℕ) (w : World) (world : worlds.World) (inv : Inv (beginning z given) w) (shows : Shows z (home_in given) (servers_of given world) w) (stands : Stands w t) where
   shows_at : (i : ℕ) (st : State) → server_at world i ≡ Some st → ShowsAt z st w i
   shows_at i st at = subst (λ st. ShowsAt z st w i) (ap (λ found. unwrap_or found (state.opening i given)) at) (shows.at i)
 
-  spared : (events : List machine.Event) → AllSpare events → Later events
-  spared events all = stands_all (beginning z given) w events t all stands
+  spared : (events : List machine.Event) → AllSpare events → Obeys (beginning z given) w events → Stands (run (beginning z given) w events) t
+  spared events all may = stands_all (beginning z given) w inv events may t all stands
 
-  begin_stands : (job : Job) (found : Option Actor) → Later (begin_events given z job found)
-  begin_stands job found = search arith
-
-  lack_stands : (why : Why) (found : Option Actor) → Later (lack_events given z (Lacked why) found)
-  lack_stands why found = grind (spared, spare_own, arith)
-
-  -- the operator asks
-  operator_stands : (server : ℕ) (asked : Request) (found : Option State) → server_at world server ≡ found
-      → ((what : Served) (st : State) → (operates world server asked found).done.served ≡ Some what → server_at world what.server ≡ Some st → Untaken t st what.request.value) → Later (operator_events given z w server asked found)
-  operator_stands server asked None at calm = stands
-  operator_stands server asked (Some st) at calm =
-      elim (is_full st stamped) as (λ b. ((what : Served) (other : State) → (operated world st (cond b None (Some (record { server = server; request = stamped; reply = answer_of st stamped })))).done.served ≡ Some what
-      → server_at world what.server ≡ Some other → Untaken t other what.request.value)
-      → Later (operated_events given z w (cond b None (Some (record { server = server; request = stamped; reply = answer_of st stamped }))))) [
-        | true ↦ λ calm. stands
-        | false ↦ λ calm. moves_stand z t server w st (shows_at server st at) stands (beginning z given) (home_in given) (decision_by z w None) (spare_decision z w None) asked (reply_of st asked)
-            (untaken_done t st asked (calm (record { server = server; request = stamped; reply = answer_of st stamped }) st refl at))
-      ] calm
-    where
-      stamped : Stamped Request
-      stamped = record { stamp = 0; value = asked }
-
-  -- an agent asks
-  asked_stands : (i : ℕ) (actor : Actor) (asked : ℕ × Request) (found : Option State) → server_at world asked.0 ≡ found
-      → ((what : Served) (st : State) → (asks_at (fixed_of given) world i actor asked found).done.served ≡ Some what → server_at world what.server ≡ Some st
-      → Untaken t st what.request.value) → Later (asked_at_events given z w actor asked found)
-  asked_stands i actor asked None at calm = stands
-  asked_stands i actor asked (Some st) at calm =
-      elim (is_full st stamped) as
-      (λ b. ((what : Served) (other : State)
-      → (answered (fixed_of given) world i actor st (cond b None (Some (record { server = asked.0; request = stamped; reply = answer_of st stamped })))).done.served ≡ Some what
-      → server_at world what.server ≡ Some other → Untaken t other what.request.value)
-      → Later (answered_events given z w actor (cond b None (Some (record { server = asked.0; request = stamped; reply = answer_of st stamped }))))) [
-        | true ↦ λ calm. spared (own_events z actor.agent.doing (take (fixed_of given) actor.agent (Lacked lack.Full))) (spare_own z actor.agent.doing (take (fixed_of given) actor.agent (Lacked lack.Full)))
-        | false ↦ λ calm.
-            let first = moves z (home_in given) (decision_by z w actor.agent.doing) asked.0 w asked.1 (reply_of st asked.1) in
-            let own = own_events z actor.agent.doing (take (fixed_of given) actor.agent (Replied (reply_of st asked.1))) in
-            subst (λ w. Stands w t) (sym (run-append (beginning z given) w first own))
-            (stands_all (beginning z given) (run (beginning z given) w first) own t (spare_own z actor.agent.doing (take (fixed_of given) actor.agent (Replied (reply_of st asked.1))))
-            (moves_stand z t asked.0 w st (shows_at asked.0 st at) stands (beginning z given) (home_in given) (decision_by z w actor.agent.doing) (spare_decision z w actor.agent.doing) asked.1 (reply_of st asked.1)
-            (untaken_done t st asked.1 (calm (record { server = asked.0; request = stamped; reply = answer_of st stamped }) st refl at))))
-      ] calm
-    where
-      stamped : Stamped Request
-      stamped = record { stamp = actor.stamp; value = asked.1 }
-
-  step_stands : (i : ℕ) (found : Option Actor)
-      → ((what : Served) (st : State) → (steps_once (fixed_of given) world i found).done.served ≡ Some what → server_at world what.server ≡ Some st → Untaken t st what.request.value) → Later (step_events given z w world found)
-  step_stands i None calm = stands
-  step_stands i (Some actor) calm = of (next_of (fixed_of given) actor.agent) calm
-    where
-      of : (asked : Option (ℕ × Request)) → ((what : Served) (st : State) → (asks (fixed_of given) world i actor asked).done.served ≡ Some what → server_at world what.server ≡ Some st → Untaken t st what.request.value)
-          → Later (asked_events given z w world actor asked)
-      of None calm = stands
-      of (Some asked) calm = asked_stands i actor asked (server_at world asked.0) refl calm
+  abbrev SparesIt : Stepped → Type 0
+  SparesIt stepped = (what : Served) (st : State) → stepped.done.served ≡ Some what → server_at world what.server ≡ Some st → Untaken t st what.request.value
 
   -- The locks that a transaction was told of stand after any event that takes nothing of it.
-  pub untaken_stands : (event : Event) → TakesNothing given t world event → Stands (moved given z w world event) t
-  untaken_stands (Begin i job) calm = begin_stands job (actor_at world i)
-  untaken_stands (Step i) calm = step_stands i (actor_at world i) calm
-  untaken_stands (Crash server) calm = operator_stands server request.Crash (server_at world server) refl calm
-  untaken_stands (Return server) calm = operator_stands server request.Return (server_at world server) refl calm
-  untaken_stands (Forget i site) calm = stands
-  untaken_stands (Lack i why) calm = lack_stands why (actor_at world i)
+  pub untaken_stands : (event : Event) → SparesIt (step (fixed_of given) world event) → Obeys (beginning z given) w (events_of given z w world event) → Stands (moved given z w world event) t
+  untaken_stands = by_moves given z w world (λ _ _ events stepped. SparesIt stepped → Obeys (beginning z given) w events → Stands (run (beginning z given) w events) t) (record {
+    nothing = λ event calm may. stands;
+    begins = λ number actor job there calm may. spared (begin_events given z job (Some actor)) (spare_begun z actor.agent.doing (begin (fixed_of given) actor.agent job).doing) may;
+    forgets = λ number actor site there calm may. stands;
+    answers = λ number actor asked st there next at room calm may.
+        let said = reply_of st asked.1 in
+        let first = exchanged z (home_in given) (decision_by z w actor.agent.doing) asked.0 w asked.1 said in
+        let own = own_events z actor.agent.doing (take (fixed_of given) actor.agent (Replied said)) in
+        let parts = obeys_first (beginning z given) w first own may in
+        subst (λ w. Stands w t) (sym (run-append (beginning z given) w first own))
+        (stands_all (beginning z given) (run (beginning z given) w first) (all_steps (beginning z given) w inv first parts.0) own parts.1 t (spare_own z actor.agent.doing (take (fixed_of given) actor.agent (Replied said)))
+        (exchange_stands z t asked.0 w st (shows_at asked.0 st at) stands (beginning z given) inv (home_in given) (decision_by z w actor.agent.doing) (spare_decision z w actor.agent.doing) asked.1 said
+        (untaken_done t st asked.1 (calm (what_of asked.0 st (sent actor asked.1)) st refl at)) parts.0));
+    lacks = λ event number actor asked why by there next calm may. spared (response_events given z actor (Lacked why)) (spare_own z actor.agent.doing (take (fixed_of given) actor.agent (Lacked why))) may;
+    operates = λ event server asked st by there room calm may.
+        moves_stand z t server w st (shows_at server st there) stands (beginning z given) inv (home_in given) (decision_by z w None) (spare_decision z w None) asked (reply_of st asked)
+        (untaken_done t st asked (calm (what_of server st (unstamped asked)) st refl there)) may;
+  })

@@ -54,7 +54,7 @@ pub use Rattle.law_run_alone.proofs.Own.{IsOwnAt, is_crash, nothing_in_the_way, 
 pub use Rattle.law_run_alone.proofs.Owns.{IsCalm, IsMine, names_mine}
 pub use Rattle.law_run_alone.proofs.Reached.{can_front, run_more, valid_back}
 pub use Rattle.law_run_alone.proofs.Requests.{Finds, HasSome, finds, stands_where}
-pub use Rattle.law_run_alone.proofs.Standing.{AllSpare, Spares, Stands, releases, spare_decision, spare_moves, spare_own, stands_all}
+pub use Rattle.law_run_alone.proofs.Standing.{AllSpare, Spares, Stands, releases, spare_begun, spare_decision, spare_moves, spare_own, stands_all}
 pub use Rattle.law_run_alone.proofs.Turns.{all_none, doing_at, doing_of, none_of, with_job}
 pub use Rattle.law_run_alone.proofs.Unhindered.{all_consistent, up_valid}
 pub use Rattle.law_run_alone.proofs.Unswept.{is_resolve, never_resolves}

@@ -1,12 +1,12 @@
 -- A decision is what its transaction comes to on what its agent knows.
-use Rattle.law_runs.proofs.Vocabulary.{◌≡◌, ℕ, Bool, true, false, cond, List, [], ◌∷◌, Option, Some, None, refl, sym, ap, subst, ◌∙◌, nat_lt, Result, none-some, Opening, Answer, Refusal, Rows, arith, replies, Request, State, reply_of, answer_of}
+use Rattle.law_runs.proofs.Vocabulary.{◌≡◌, ℕ, Bool, true, false, List, [], ◌∷◌, Option, Some, None, refl, sym, ap, subst, ◌∙◌, nat_lt, Result, none-some, Opening, Answer, Refusal, Rows, arith, replies, Request, State, reply_of}
 use Rattle.law_runs.proofs.Vocabulary.{Ended, done_is_the_tables, Job, Transaction, Sweep, Response, known_of, Fixed, Task, Proposal, TransactionRun, SweepRun, Doing, Running, RunningSweep, After, decision_of, is_decide, Agent, next_in, next_of}
-use Rattle.law_runs.proofs.Vocabulary.{left, take_in, begin, started, fixed_of, Event, Begin, Step, Crash, Return, Forget, Lack, Served, Actor, World, server_at, actor_at, opening, answered, asks_at, asks, steps_once, step, after, run, Decided}
-use Rattle.law_runs.proofs.Vocabulary.{decided_at, decided_by, task_of, task_at, IsAnsweredAsKnown, AnswersFollowKnowledge}
+use Rattle.law_runs.proofs.Vocabulary.{left, take_in, begin, started, fixed_of, Event, Step, Actor, World, server_at, actor_at, opening, step, after, run, Decided}
+use Rattle.law_runs.proofs.Vocabulary.{decided_at, decided_as, decided_by, answer_in, to_decide, task_in, task_of, task_at, IsAnsweredAsKnown, AnswersFollowKnowledge}
 use Rattle.file_exec.specs.Known.{on_table}
 use Rattle.rep_core.specs.declared.request.Request.TheVariants as request
-use Rattle.rep_core.specs.declared.reply.Reply.TheVariants as reply
 use Rattle.txn_core.specs.Sweeps as sweep
+use Rattle.law_runs.proofs.Moves.{sent, what_of, of_operator, by_moves}
 use Rattle.law_runs.proofs.Asking.{decides}
 use Rattle.law_runs.proofs.Turns.{decides_at, no_decide}
 use Rattle.law_runs.proofs.Worlds.{agent_of, agent_at}
@@ -69,10 +69,6 @@ always_knows given events = run_knows (fixed_of given) events (opening given) (�
 pub none_at : (found : Option State) (t : Option ℕ) → decided_at found t None ≡ None
 none_at found t = search arith
 
--- without a transaction nothing is decided
-no_task : (world : World) (what : Option Served) → decided_by world None what ≡ None
-no_task world what = search arith
-
 -- what an outcome makes of a task
 abbrev decided_with : Task → Proposal → Decided
 decided_with task outcome = record { t = task.t; caller = task.caller; ops = task.ops; answer = answer_as outcome }
@@ -115,43 +111,24 @@ module _ (given : Opening) (world : World) (all : AllKnow (fixed_of given) (agen
             ∙ ap replies (sym (done_is_the_tables (fixed_of given).service (known_of txn_run.suites) rows txn_run.task.t txn_run.task.caller txn_run.task.ops came.result agrees came.is));
       })
 
-  by_serving : (actor : Actor) (txn_run : TransactionRun) (asked : ℕ × Request) (st : State) → actor_at world number ≡ Some actor → actor.agent.doing ≡ Some (Running txn_run)
-      → next_of (fixed_of given) actor.agent ≡ Some asked → server_at world asked.0 ≡ Some st
-      → (full : Bool) → decided_by world (Some txn_run.task) (answered (fixed_of given) world number actor st
-      (cond full None
-      (Some (record {
-        server = asked.0;
-        request = record { stamp = actor.stamp; value = asked.1 };
-        reply = answer_of st
-            (record { stamp = actor.stamp; value = asked.1 });
-      })))).done.served ≡ Some one
-      → IsAnsweredAsKnown given world (Step number) one
-  by_serving actor txn_run asked st h4 h5 h6 h7 full h9 = search (none-some, in_course, arith)
-
-  by_server : (actor : Actor) (txn_run : TransactionRun) (asked : ℕ × Request) → actor_at world number ≡ Some actor → actor.agent.doing ≡ Some (Running txn_run)
-      → next_of (fixed_of given) actor.agent ≡ Some asked → (st : Option State) → server_at world asked.0 ≡ st
-      → decided_by world (Some txn_run.task) (asks_at (fixed_of given) world number actor asked st).done.served ≡ Some one → IsAnsweredAsKnown given world (Step number) one
-  by_server actor txn_run asked h3 h4 h5 st h7 h8 = search (none-some, by_serving, arith)
-
-  by_request : (actor : Actor) (txn_run : TransactionRun) → actor_at world number ≡ Some actor → actor.agent.doing ≡ Some (Running txn_run) → (asked : Option (ℕ × Request)) → next_of (fixed_of given) actor.agent ≡ asked
-      → decided_by world (Some txn_run.task) (asks (fixed_of given) world number actor asked).done.served ≡ Some one → IsAnsweredAsKnown given world (Step number) one
-  by_request actor txn_run h2 h3 asked h5 h6 = search (none-some, by_server, arith)
-
-  by_doing : (actor : Actor) → actor_at world number ≡ Some actor → (doing : Option Doing) → actor.agent.doing ≡ doing
-      → decided_by world (task_of doing) (asks (fixed_of given) world number actor (next_of (fixed_of given) actor.agent)).done.served ≡ Some one
-      → IsAnsweredAsKnown given world (Step number) one
-  by_doing actor there (Some (Running txn_run)) running is = by_request actor txn_run there running (next_of (fixed_of given) actor.agent) refl is
-  by_doing actor there (Some (RunningSweep sweep_run)) running is = absurd (none-some one (sym (no_task world (asks (fixed_of given) world number actor (next_of (fixed_of given) actor.agent)).done.served) ∙ is))
-  by_doing actor there None running is = absurd (none-some one (sym (no_task world (asks (fixed_of given) world number actor (next_of (fixed_of given) actor.agent)).done.served) ∙ is))
-
-  by_actor : (found : Option Actor) → actor_at world number ≡ found → decided_by world (task_at found) (steps_once (fixed_of given) world number found).done.served ≡ Some one → IsAnsweredAsKnown given world (Step number) one
-  by_actor None there is = absurd (none-some one is)
-  by_actor (Some actor) there is = by_doing actor there actor.agent.doing refl is
+  by_doing : (actor : Actor) (asked : ℕ × Request) (st : State) → actor_at world number ≡ Some actor → next_of (fixed_of given) actor.agent ≡ Some asked → (doing : Option Doing) → actor.agent.doing ≡ doing
+      → decided_at (Some st) (to_decide asked.1) (decided_as (task_of doing) (answer_in (reply_of st asked.1))) ≡ Some one → IsAnsweredAsKnown given world (Step number) one
+  by_doing actor asked st there next (Some (Running txn_run)) running is = in_course actor txn_run asked st there running next is (is_decide asked.1) refl
+  by_doing actor asked st there next (Some (RunningSweep sweep_run)) running is = absurd (none-some one (sym (none_at (Some st) (to_decide asked.1)) ∙ is))
+  by_doing actor asked st there next None running is = absurd (none-some one (sym (none_at (Some st) (to_decide asked.1)) ∙ is))
 
 pub answers_follow_knowledge : AnswersFollowKnowledge
-answers_follow_knowledge given events (Step number) one is = by_actor given (run given events) (always_knows given events) number one (actor_at (run given events) number) refl is
-answers_follow_knowledge given events (Begin number job) one is = absurd (none-some one (sym (no_task (run given events) (step (fixed_of given) (run given events) (Begin number job)).done.served) ∙ is))
-answers_follow_knowledge given events (Crash server) one is = absurd (none-some one (sym (no_task (run given events) (step (fixed_of given) (run given events) (Crash server)).done.served) ∙ is))
-answers_follow_knowledge given events (Return server) one is = absurd (none-some one (sym (no_task (run given events) (step (fixed_of given) (run given events) (Return server)).done.served) ∙ is))
-answers_follow_knowledge given events (Forget number site) one is = absurd (none-some one (sym (no_task (run given events) (step (fixed_of given) (run given events) (Forget number site)).done.served) ∙ is))
-answers_follow_knowledge given events (Lack number why) one is = absurd (none-some one (sym (no_task (run given events) (step (fixed_of given) (run given events) (Lack number why)).done.served) ∙ is))
+answers_follow_knowledge given events event one =
+    let world = run given events in
+    by_moves (fixed_of given) world (λ event stepped. decided_by world (task_in world event) stepped.done.served ≡ Some one → IsAnsweredAsKnown given world event one) (record {
+      nothing = λ event is. absurd (none-some one is);
+      begins = λ number actor job there is. absurd (none-some one is);
+      forgets = λ number actor site there is. absurd (none-some one is);
+      answers = λ number actor asked st there next at room is.
+          by_doing given world (always_knows given events) number one actor asked st there next actor.agent.doing refl
+          (ap (λ found. decided_at found (to_decide asked.1) (decided_as (task_of actor.agent.doing) (answer_in (reply_of st asked.1)))) (sym at)
+          ∙ ap (λ found. decided_by world (task_at found) (Some (what_of asked.0 st (sent actor asked.1)))) (sym there) ∙ is);
+      lacks = λ event number actor asked why by there next is. absurd (none-some one is);
+      operates = λ event server asked st by there room is.
+          absurd (none-some one (ap (λ t. decided_at (server_at world server) t (decided_as (task_in world event) (answer_in (reply_of st asked)))) (sym (of_operator (λ asked. to_decide asked ≡ None) refl refl event server asked by)) ∙ is));
+    }) event

@@ -1,8 +1,7 @@
 -- What an event makes of each agent: it is as it was, or it began, forgot, or took a response.
-use Rattle.law_runs.proofs.Vocabulary.{◌≡◌, ℕ, List, Option, Some, None, Request, State, Job, Response, Replied, Lacked, Fixed, Agent, take, begin, forget, Event, arith, Served, Actor, World, actor_at, with_actor, after_serving, moved, becomes}
-use Rattle.law_runs.proofs.Vocabulary.{answered, asks, steps_once, lacks_for, lacks, operates, step}
-use Rattle.rep_core.specs.declared.stamped.Lack.{Lack as Why}
-use Rattle.rep_core.specs.declared.stamped.Lack.TheVariants as lack
+use Rattle.law_runs.proofs.Vocabulary.{◌≡◌, ℕ, Option, Some, None, Job, Response, Replied, Lacked, Fixed, Agent, take, begin, forget, Event, arith, Actor, World, actor_at, with_actor, moved, reply_of, answer_of}
+use Rattle.law_runs.proofs.Vocabulary.{step}
+use Rattle.law_runs.proofs.Moves.{sent, by_moves}
 use Rattle.law_runs.proofs.Places.{same_or}
 use Rattle.law_runs.proofs.Worlds.{agent_at, puts_agent}
 
@@ -34,33 +33,12 @@ module _ (fixed : Fixed) (R : Agent → Agent → Type 0) (same : (agent : Agent
   each_put : (world : World) (i : ℕ) (actor new : Actor) → actor_at world i ≡ Some actor → R actor.agent new.agent → Each world (with_actor i new world)
   each_put world i actor new is goes j = search (puts_agent world i actor new is, agent_at world j, agent_at (with_actor i new world) j, agent_at (with_actor i new world) i, both_same (agent_at world j), same_or j i, arith)
 
-  each_becomes : (world : World) (i : ℕ) (change : Agent → Agent) → ((agent : Agent) → R agent (change agent)) → (found : Option Actor) → actor_at world i ≡ found → Each world (becomes world i change found).world
-  each_becomes world i change goes None is = each_same world
-  each_becomes world i change goes (Some actor) is = each_put world i actor (record actor { agent = change actor.agent }) is (goes actor.agent)
-
-  each_took : (world : World) (i : ℕ) (actor : Actor) (stamp : ℕ) (response : Response) (servers : List State) → actor_at world i ≡ Some actor
-      → Each world (with_actor i (moved actor stamp (take fixed actor.agent response)) (record world { servers = servers }))
-  each_took world i actor stamp response servers is = each_put world i actor (moved actor stamp (take fixed actor.agent response)) is (takes actor.agent response)
-
-  each_answered : (world : World) (i : ℕ) (actor : Actor) (st : State) (what : Option Served) → actor_at world i ≡ Some actor → Each world (answered fixed world i actor st what).world
-  each_answered world i actor st (Some what) is = each_took world i actor what.reply.stamp (Replied what.reply.value) (after_serving st what world).servers is
-  each_answered world i actor st None is = each_took world i actor actor.stamp (Lacked lack.Full) world.servers is
-
-  each_asks : (world : World) (i : ℕ) (actor : Actor) (asked : Option (ℕ × Request)) → actor_at world i ≡ Some actor → Each world (asks fixed world i actor asked).world
-  each_asks world i actor asked h4 = search (each_same, each_answered, arith)
-
-  each_steps : (world : World) (i : ℕ) (found : Option Actor) → actor_at world i ≡ found → Each world (steps_once fixed world i found).world
-  each_steps world i found h3 = search (each_same, each_asks, arith)
-
-  each_lacks_for : (world : World) (i : ℕ) (actor : Actor) (why : Why) (asked : Option (ℕ × Request)) → actor_at world i ≡ Some actor → Each world (lacks_for fixed world i actor (Lacked why) asked).world
-  each_lacks_for world i actor why None is = each_same world
-  each_lacks_for world i actor why (Some asked) is = each_took world i actor actor.stamp (Lacked why) world.servers is
-
-  each_lacks : (world : World) (i : ℕ) (why : Why) (found : Option Actor) → actor_at world i ≡ found → Each world (lacks fixed world i (Lacked why) found).world
-  each_lacks world i why found h4 = search (each_same, each_lacks_for, arith)
-
-  each_operates : (world : World) (server : ℕ) (asked : Request) (found : Option State) → Each world (operates world server asked found).world
-  each_operates world server asked found = search arith
-
   pub each_event : (world : World) (event : Event) → (i : ℕ) → Both R (agent_at world i) (agent_at (step fixed world event).world i)
-  each_event world event = search (each_becomes, each_steps, each_operates, each_lacks, arith)
+  each_event world = by_moves fixed world (λ _ stepped. Each world stepped.world) (record {
+    nothing = λ _. each_same world;
+    begins = λ number actor job is. each_put world number actor (record actor { agent = begin fixed actor.agent job }) is (begins actor.agent job);
+    forgets = λ number actor site is. each_put world number actor (record actor { agent = forget actor.agent site }) is (forgets actor.agent site);
+    answers = λ number actor asked st is next there room. each_put world number actor (moved actor (answer_of st (sent actor asked.1)).stamp (take fixed actor.agent (Replied (reply_of st asked.1)))) is (takes actor.agent (Replied (reply_of st asked.1)));
+    lacks = λ event number actor asked why by is next. each_put world number actor (moved actor actor.stamp (take fixed actor.agent (Lacked why))) is (takes actor.agent (Lacked why));
+    operates = λ event server asked st is there room. each_same world;
+  })

@@ -1,14 +1,14 @@
 -- A Finish says how its transaction ended; and whose Finish was served before a transaction was decided, was decided before it.
 use Rattle.law_runs.proofs.Vocabulary.{◌≡◌, ℕ, Bool, true, false, List, [], ◌∷◌, ◌++◌, append_assoc, Option, Some, None, refl, sym, ap, subst, ◌∙◌, arith, ◌==◌, not, Ok, Err, Contains, and_parts, false≢true, nat_tests, none-some, same_Some, Service}
-use Rattle.law_runs.proofs.Vocabulary.{Opening, IsAccepted, Request, Verdict, Lock, State, record_of, Has, has_from, contains_from, Ending, Lacked, Suites, home_of, Fixed, Task, Phase, Finishing, TransactionRun, SweepRun, Doing, Running}
-use Rattle.law_runs.proofs.Vocabulary.{RunningSweep, Sweeping, Telling, request_in, asked_now, Agent, next_in, next_of, fixed_of, Event, Begin, Step, Crash, Return, Forget, Lack, Served, Actor, World, opening, server_at, actor_at, becomes, answered}
-use Rattle.law_runs.proofs.Vocabulary.{asks, steps_once, lacks, operates, step, after, dones, run, Decided, decisions, after-append, names, may_sweep, IsDecidedAs}
+use Rattle.law_runs.proofs.Vocabulary.{Opening, IsAccepted, Request, Verdict, Lock, record_of, Has, has_from, contains_from, Ending, Suites, home_of, Fixed, Task, Phase, Finishing, TransactionRun, SweepRun, Doing, Running}
+use Rattle.law_runs.proofs.Vocabulary.{RunningSweep, Sweeping, Telling, request_in, asked_now, next_in, next_of, fixed_of, Event, Served, Actor, World, opening, server_at, actor_at}
+use Rattle.law_runs.proofs.Vocabulary.{step, after, dones, run, Decided, decisions, after-append, names, may_sweep, IsDecidedAs}
 use Rattle.rep_core.specs.Laws.{is_finish}
 use Rattle.law_runs.specs.Finishes.{EndedSo, FinishIsAfter, asks_for_itself, FinishedBefore, FinishedChangesAreMet, SomeRunsFinish}
-use Rattle.rep_core.specs.declared.stamped.Lack.{Lack as Why}
 use Rattle.run_core.specs.declared.done.Done.{Done}
 use Rattle.rep_core.specs.declared.request.Request.TheVariants as request
 use Rattle.rep_core.specs.declared.reply.Verdict.TheVariants as verdict
+use Rattle.law_runs.proofs.Moves.{sent, unstamped, what_of, of_operator, by_moves}
 use Rattle.law_runs.proofs.Standing.{Answer', In, NotIn, Stands, append_has_left, verdict_as}
 use Rattle.law_runs.proofs.Asking.{asks_in_its_name, asks_to_sweep}
 use Rattle.law_runs.proofs.Words.{Tells}
@@ -115,34 +115,19 @@ record IsAsked (fixed : Fixed) (world : World) (what : Served) : Type 0 where
   there : actor_at world number ≡ Some actor
   next : next_of fixed actor.agent ≡ Some (what.server, what.request.value)
 
-module _ (fixed : Fixed) (world : World) (what : Served) where
-  quiet_none : {A : Type 0} → ◌≡◌ {A = Option Served} None (Some what) → A
-  quiet_none is = absurd (none-some what is)
-
-  serves_asked : (number : ℕ) (actor : Actor) (asked : Option (ℕ × Request)) → actor_at world number ≡ Some actor → next_of fixed actor.agent ≡ asked → (asks fixed world number actor asked).done.served ≡ Some what → IsAsked fixed world what
-  serves_asked number actor asked h3 h4 h5 = search arith
-
-  serves_step : (number : ℕ) (found : Option Actor) → actor_at world number ≡ found → (steps_once fixed world number found).done.served ≡ Some what → IsAsked fixed world what
-  serves_step number None there is = quiet_none is
-  serves_step number (Some actor) there is = serves_asked number actor (next_of fixed actor.agent) there refl is
-
-  serves_operator : (p : Request → Bool) (server : ℕ) (asked : Request) → p asked ≡ false → p what.request.value ≡ true → (found : Option State) → (operates world server asked found).done.served ≡ Some what → IsAsked fixed world what
-  serves_operator p server asked h3 h4 found h6 = search arith
-
-  changes_none : (number : ℕ) (change : Agent → Agent) (found : Option Actor) → (becomes world number change found).done.served ≡ Some what → IsAsked fixed world what
-  changes_none number change found h3 = search arith
-
-  lacks_none : (number : ℕ) (why : Why) (found : Option Actor) → (lacks fixed world number (Lacked why) found).done.served ≡ Some what → IsAsked fixed world what
-  lacks_none number why found h3 = search arith
-
-  -- a request that no operator makes
-  serves : (p : Request → Bool) → p request.Crash ≡ false → p request.Return ≡ false → p what.request.value ≡ true → (event : Event) → (step fixed world event).done.served ≡ Some what → IsAsked fixed world what
-  serves p crash return named (Begin number job) is = changes_none number _ (actor_at world number) is
-  serves p crash return named (Step number) is = serves_step number (actor_at world number) refl is
-  serves p crash return named (Crash server) is = serves_operator p server request.Crash crash named (server_at world server) is
-  serves p crash return named (Return server) is = serves_operator p server request.Return return named (server_at world server) is
-  serves p crash return named (Forget number site) is = changes_none number _ (actor_at world number) is
-  serves p crash return named (Lack number why) is = lacks_none number why (actor_at world number) is
+-- a request that no operator makes
+serves : (fixed : Fixed) (world : World) (what : Served) (p : Request → Bool) → p request.Crash ≡ false → p request.Return ≡ false → p what.request.value ≡ true
+    → (event : Event) → (step fixed world event).done.served ≡ Some what → IsAsked fixed world what
+serves fixed world what p crash return named = by_moves fixed world (λ _ stepped. stepped.done.served ≡ Some what → IsAsked fixed world what) (record {
+  nothing = λ event same. absurd (none-some what same);
+  begins = λ number actor job is same. absurd (none-some what same);
+  forgets = λ number actor site is same. absurd (none-some what same);
+  answers = λ number actor asked st is next there room same.
+      record { number = number; actor = actor; there = is; next = next ∙ ap (λ (what : Served). Some (what.server, what.request.value)) (same_Some (what_of asked.0 st (sent actor asked.1)) what same) };
+  lacks = λ event number actor asked why by is next same. absurd (none-some what same);
+  operates = λ event server asked st by there room same.
+      absurd (false≢true (sym (of_operator (λ asked. p asked ≡ false) crash return event server asked by) ∙ ap (λ (what : Served). p what.request.value) (same_Some (what_of server st (unstamped asked)) what same) ∙ named));
+})
 
 finish_asked : (given : Opening) → IsAccepted given → (events : List Event) (number : ℕ) (actor : Actor) (server t : ℕ) (v : Verdict)
     → actor_at (run given events) number ≡ Some actor → next_of (fixed_of given) actor.agent ≡ Some (server, request.Finish t v) → EndedSo given events t v

@@ -4,6 +4,7 @@ pub mod Asking
 pub mod Records
 pub mod Standing
 pub mod Places
+pub mod Moves
 pub mod Lengths
 pub mod Servers
 pub mod Agents

@@ -1,14 +1,14 @@
 -- What a sweep tells of a transaction is its home's record: event by event.
-use Rattle.law_runs.proofs.Vocabulary.{◌≡◌, ⊎_elim, ℕ, Bool, true, false, cond, List, [], ◌∷◌, Option, Some, None, refl, sym, ap, subst, ◌∙◌, slice_get, slice_set, Opening, Lock, Request, arith, Reply, Verdict, Stamped, State, record_of, reply_of}
-use Rattle.law_runs.proofs.Vocabulary.{is_full, served, answer_of, resolve_ruled, Job, Response, Replied, Lacked, home_of, Fixed, SweepRun, Doing, Running, RunningSweep, Sweeping, Telling, Agent, next_in, next_of, left, take_in, take, begin, forget}
-use Rattle.law_runs.proofs.Vocabulary.{fixed_of, Event, Begin, Step, Crash, Return, Forget, Lack, Served, Actor, World, server_at, actor_at, with_actor, opening, serve, after_serving, moved, becomes, lacked, answered, asks_at, asks, steps_once}
-use Rattle.law_runs.proofs.Vocabulary.{lacks_for, lacks, operated, operates, step, after, run}
-use Rattle.rep_core.specs.declared.stamped.Lack.{Lack as Why}
+use Rattle.law_runs.proofs.Vocabulary.{◌≡◌, ⊎_elim, ℕ, Bool, cond, List, [], ◌∷◌, Option, Some, None, sym, ap, subst, ◌∙◌, slice_get, slice_set, Opening, Lock, Request, arith, Reply, Verdict, Stamped, State, record_of, reply_of}
+use Rattle.law_runs.proofs.Vocabulary.{served, answer_of, resolve_ruled, Job, Response, Replied, Lacked, home_of, Fixed, SweepRun, Doing, Running, RunningSweep, Sweeping, Telling, Agent, next_in, next_of, left, take_in, take, begin, forget}
+use Rattle.law_runs.proofs.Vocabulary.{fixed_of, Event, Actor, World, server_at, actor_at, with_actor, opening, moved}
+use Rattle.law_runs.proofs.Vocabulary.{step, after, run}
 use Rattle.rep_core.specs.Service.{after as after_request}
 use Rattle.rep_core.specs.declared.request.Request.TheVariants as request
 use Rattle.rep_core.specs.declared.reply.Reply.TheVariants as reply
-use Rattle.rep_core.specs.declared.stamped.Lack.TheVariants as lack
 use Rattle.txn_core.specs.Sweeps as sweep
+use Rattle.run_core.specs.Worlds.{with_server}
+use Rattle.law_runs.proofs.Moves.{sent, unstamped, by_moves}
 use Rattle.law_runs.proofs.Places.{Puts, at_puts}
 use Rattle.law_runs.proofs.Turns.{stays_served}
 use Rattle.law_runs.proofs.Worlds.{agent_of, agent_at, puts_in, puts_agent}
@@ -90,11 +90,6 @@ module _ (fixed : Fixed) (world : World) (all : AllTell fixed world) where
         (at_puts (agent_at world) (agent_at (with_actor i new world)) i actor.agent new.agent (puts_agent world i actor new is) j agent at);
   }
 
-  goes_becomes : (i : ℕ) (change : Agent → Agent) → ((agent : Agent) → TellsRules fixed (server_at world) agent.doing → TellsRules fixed (server_at world) (change agent).doing) → (found : Option Actor) → actor_at world i ≡ found
-      → Goes fixed world (becomes world i change found).world
-  goes_becomes i change keeps None is = goes_same
-  goes_becomes i change keeps (Some actor) is = goes_put world.servers i actor (record actor { agent = change actor.agent }) is (λ t v is. is) (keeps actor.agent (all i actor.agent (ap agent_of is)))
-
   goes_took : (servers : List State) (i : ℕ) (actor : Actor) (stamp : ℕ) (asked : ℕ × Request) (response : Response) → actor_at world i ≡ Some actor
       → next_of fixed actor.agent ≡ Some asked → RulesStay fixed (server_at world) (slice_get servers)
       → Answers fixed (slice_get servers) asked response → Goes fixed world (with_actor i (moved actor stamp (take fixed actor.agent response)) (record world { servers = servers }))
@@ -103,80 +98,35 @@ module _ (fixed : Fixed) (world : World) (all : AllTell fixed world) where
       (subst (λ o. TellsRules fixed (slice_get servers) (take_in fixed actor.agent response actor.agent.doing o).agent.doing) (sym next)
       (take_told fixed (slice_get servers) actor.agent response actor.agent.doing asked next answers))
 
-  goes_lacked : (i : ℕ) (actor : Actor) (asked : ℕ × Request) (why : Why) → actor_at world i ≡ Some actor → next_of fixed actor.agent ≡ Some asked → Goes fixed world (lacked fixed world i actor (Lacked why)).world
-  goes_lacked i actor asked why is next = goes_took world.servers i actor actor.stamp asked (Lacked why) is next (λ t v is. is) (λ t v _ said. absurd cc)
+  said_so : (a b : Reply) → Replied a ≡ Replied b → a ≡ b
+  said_so a b same = cc
 
-  goes_answered : (i : ℕ) (actor : Actor) (asked : ℕ × Request) (st : State) → actor_at world i ≡ Some actor → next_of fixed actor.agent ≡ Some asked → server_at world asked.0 ≡ Some st
-      → Goes fixed world (answered fixed world i actor st (serve asked.0 st (record { stamp = actor.stamp; value = asked.1 }))).world
-  goes_answered i actor asked st is next at =
-      elim (is_full st stamped) as (λ b. is_full st stamped ≡ b → Goes fixed world (answered fixed world i actor st (cond b None (Some what))).world) [
-        | true ↦ λ _. goes_lacked i actor asked lack.Full is next
-        | false ↦ λ room.
-            goes_took (slice_set world.servers asked.0 (served st stamped)) i actor (answer_of st stamped).stamp asked (Replied (reply_of st asked.1)) is next
-            (rules_put fixed (server_at world) (slice_get (slice_set world.servers asked.0 (served st stamped))) asked.0 st (served st stamped) (puts_in world.servers asked.0 st (served st stamped) at) (stays_served st stamped room))
-            (λ t v same said. record {
-              st = served st stamped;
-              at = ap (slice_get (slice_set world.servers asked.0 (served st stamped))) (sym (ap (λ (asked : ℕ × Request). asked.0) same)) ∙ (puts_in world.servers asked.0 st (served st stamped) at).here;
-              is = ruled t v (ap (λ (asked : ℕ × Request). asked.1) same) (said_so (reply_of st asked.1) (reply.Verdict v) said);
-            })
-      ] refl
-    where
-      stamped : Stamped Request
-      stamped = record { stamp = actor.stamp; value = asked.1 }
-
-      what : Served
-      what = record { server = asked.0; request = stamped; reply = answer_of st stamped }
-
-      said_so : (a b : Reply) → Replied a ≡ Replied b → a ≡ b
-      said_so a b same = cc
-
-      ruled : (t : ℕ) (v : Verdict) → asked.1 ≡ request.Resolve t → reply_of st asked.1 ≡ reply.Verdict v → record_of (served st stamped) t ≡ Some v
-      ruled t v same said = ap (λ (request : Request). record_of (after_request st request) t) same ∙ resolve_ruled st t v (ap (reply_of st) (sym same) ∙ said)
-
-  goes_asks : (i : ℕ) (actor : Actor) (asked : Option (ℕ × Request)) → actor_at world i ≡ Some actor → next_of fixed actor.agent ≡ asked → Goes fixed world (asks fixed world i actor asked).world
-  goes_asks i actor None is next = goes_same
-  goes_asks i actor (Some asked) is next = at (server_at world asked.0) refl
-    where
-      at : (st : Option State) → server_at world asked.0 ≡ st → Goes fixed world (asks_at fixed world i actor asked st).world
-      at None there = goes_same
-      at (Some st) there = goes_answered i actor asked st is next there
-
-  goes_steps : (i : ℕ) (found : Option Actor) → actor_at world i ≡ found → Goes fixed world (steps_once fixed world i found).world
-  goes_steps i None is = goes_same
-  goes_steps i (Some actor) is = goes_asks i actor (next_of fixed actor.agent) is refl
-
-  goes_lacks_for : (i : ℕ) (actor : Actor) (why : Why) (asked : Option (ℕ × Request)) → actor_at world i ≡ Some actor → next_of fixed actor.agent ≡ asked → Goes fixed world (lacks_for fixed world i actor (Lacked why) asked).world
-  goes_lacks_for i actor why None is next = goes_same
-  goes_lacks_for i actor why (Some asked) is next = goes_lacked i actor asked why is next
-
-  goes_lacks : (i : ℕ) (why : Why) (found : Option Actor) → actor_at world i ≡ found → Goes fixed world (lacks fixed world i (Lacked why) found).world
-  goes_lacks i why None is = goes_same
-  goes_lacks i why (Some actor) is = goes_lacks_for i actor why (next_of fixed actor.agent) is refl
-
-  goes_operates : (server : ℕ) (asked : Request) (found : Option State) → server_at world server ≡ found → Goes fixed world (operates world server asked found).world
-  goes_operates server asked None is = goes_same
-  goes_operates server asked (Some st) is =
-      elim (is_full st stamped) as (λ b. is_full st stamped ≡ b → Goes fixed world (operated world st (cond b None (Some what))).world) [
-        | true ↦ λ _. goes_same
-        | false ↦ λ room.
-            let puts = puts_in world.servers server st (served st stamped) is in
-            let stay = rules_put fixed (server_at world) (server_at (after_serving st what world)) server st (served st stamped) puts (stays_served st stamped room) in
-            record { rules = stay; tell = λ j agent at. rules_later fixed (server_at world) (server_at (after_serving st what world)) agent.doing stay (all j agent at) }
-      ] refl
-    where
-      stamped : Stamped Request
-      stamped = record { stamp = 0; value = asked }
-
-      what : Served
-      what = record { server = server; request = stamped; reply = answer_of st stamped }
+  ruled : (st : State) (asked : Stamped Request) (t : ℕ) (v : Verdict) → asked.value ≡ request.Resolve t → reply_of st asked.value ≡ reply.Verdict v → record_of (served st asked) t ≡ Some v
+  ruled st asked t v same said = ap (λ (request : Request). record_of (after_request st request) t) same ∙ resolve_ruled st t v (ap (reply_of st) (sym same) ∙ said)
 
   pub event_goes : (event : Event) → Goes fixed world (step fixed world event).world
-  event_goes (Begin i job) = goes_becomes i (λ agent. begin fixed agent job) (λ agent told. begin_told fixed (server_at world) agent job told) (actor_at world i) refl
-  event_goes (Step i) = goes_steps i (actor_at world i) refl
-  event_goes (Crash server) = goes_operates server request.Crash (server_at world server) refl
-  event_goes (Return server) = goes_operates server request.Return (server_at world server) refl
-  event_goes (Forget i site) = goes_becomes i (λ agent. forget agent site) (λ agent told. told) (actor_at world i) refl
-  event_goes (Lack i why) = goes_lacks i why (actor_at world i) refl
+  event_goes = by_moves fixed world (λ _ stepped. Goes fixed world stepped.world) (record {
+    nothing = λ _. goes_same;
+    begins = λ number actor job is. goes_put world.servers number actor (record actor { agent = begin fixed actor.agent job }) is (λ t v is. is)
+        (begin_told fixed (server_at world) actor.agent job (all number actor.agent (ap agent_of is)));
+    forgets = λ number actor site is. goes_put world.servers number actor (record actor { agent = forget actor.agent site }) is (λ t v is. is) (all number actor.agent (ap agent_of is));
+    answers = λ number actor asked st is next there room.
+        let asks = sent actor asked.1 in
+        let puts = puts_in world.servers asked.0 st (served st asks) there in
+        let servers = slice_set world.servers asked.0 (served st asks) in
+        goes_took servers number actor (answer_of st asks).stamp asked (Replied (reply_of st asked.1)) is next
+        (rules_put fixed (server_at world) (slice_get servers) asked.0 st (served st asks) puts (stays_served st asks room))
+        (λ t v same said. record {
+          st = served st asks;
+          at = ap (slice_get servers) (sym (ap (λ (asked : ℕ × Request). asked.0) same)) ∙ puts.here;
+          is = ruled st asks t v (ap (λ (asked : ℕ × Request). asked.1) same) (said_so (reply_of st asked.1) (reply.Verdict v) said);
+        });
+    lacks = λ event number actor asked why by is next. goes_took world.servers number actor actor.stamp asked (Lacked why) is next (λ t v is. is) (λ t v _ said. absurd cc);
+    operates = λ event server asked st is there room.
+        let new = with_server server (served st (unstamped asked)) world in
+        let stay = rules_put fixed (server_at world) (server_at new) server st (served st (unstamped asked)) (puts_in world.servers server st (served st (unstamped asked)) there) (stays_served st (unstamped asked) room) in
+        record { rules = stay; tell = λ j agent at. rules_later fixed (server_at world) (server_at new) agent.doing stay (all j agent at) };
+  })
 
 pub run_goes : (fixed : Fixed) (events : List Event) (world : World) → AllTell fixed world → Goes fixed world (after fixed world events)
 run_goes fixed [] world all = goes_same fixed world all

@@ -1,13 +1,12 @@
 -- What holds of the decisions and the jobs that ended in every run: one event after the other.
-use Rattle.law_runs.proofs.Vocabulary.{◌≡◌, ◌≢◌, ◌⊎◌, inl, inr, ⊎_elim, ℕ, zero, suc, ◌+◌, ◌≤◌, Bool, true, false, cond, List, [], ◌∷◌, ◌++◌, append_assoc, Option, Some, None, refl, sym, ap, subst, ◌∙◌, arith, slice_get, slice_set, option_map}
+use Rattle.law_runs.proofs.Vocabulary.{◌≡◌, ◌≢◌, ◌⊎◌, inl, inr, ⊎_elim, ℕ, zero, suc, ◌+◌, ◌≤◌, Bool, true, false, List, [], ◌∷◌, ◌++◌, append_assoc, Option, Some, None, refl, sym, ap, subst, ◌∙◌, arith, slice_get, slice_set, option_map}
 use Rattle.law_runs.proofs.Vocabulary.{option_to_list, cons_option, none-some, same_Some, Request, Reply, Verdict, Stamped, State, record_of, is_full, served, answer_of, next_stamp, Ending, Job, Response, Replied, Lacked, Fixed, Task, TransactionRun}
-use Rattle.law_runs.proofs.Vocabulary.{SweepRun, Doing, Running, RunningSweep, is_decide, Agent, next_in, next_of, take_in, take, begin, forget, Event, Begin, Step, Crash, Return, Forget, Lack, Served, EndedJob, Actor, World, server_at, actor_at}
-use Rattle.law_runs.proofs.Vocabulary.{with_actor, Stepped, serve, after_serving, moved, outcome_of, lacked, answered, becomes, asks_at, asks, steps_once, lacks_for, lacks, operated, operates, step, after, dones, outcomes, Decided, task_of, task_at}
+use Rattle.law_runs.proofs.Vocabulary.{SweepRun, Doing, Running, RunningSweep, is_decide, Agent, next_in, next_of, take_in, take, begin, forget, Event, EndedJob, Actor, World, server_at, actor_at}
+use Rattle.law_runs.proofs.Vocabulary.{with_actor, Stepped, after_serving, moved, outcome_of, lacked, answered, operated, step, after, dones, outcomes, Decided, task_of, task_at}
 use Rattle.law_runs.proofs.Vocabulary.{task_in, decided_by, decided, decisions_from, decided_at, to_decide, decided_as, answer_in, asks_same, Deciding as Deciding'}
 use Rattle.rep_core.specs.declared.stamped.Lack.{Lack as Why}
 use Rattle.rep_core.specs.Service.{after as after_request, reply_of}
-use Rattle.rep_core.specs.declared.request.Request.TheVariants as request
-use Rattle.rep_core.specs.declared.stamped.Lack.TheVariants as lack
+use Rattle.law_runs.proofs.Moves.{sent, unstamped, what_of, of_operator, by_moves}
 use Rattle.law_runs.proofs.Standing.{NotIn, Recorded, none_in, stands_more, has_append}
 use Rattle.law_runs.proofs.Places.{Puts}
 use Rattle.law_runs.proofs.Servers.{AreKept, Quiet, Deciding, append_none, kept_quietly, kept_deciding, kept_none}
@@ -109,44 +108,28 @@ begun_put fixed world i actor agent ds past holds is begun =
     becomes_put fixed world i actor (record actor { agent = agent }) ds past holds is begun.index (omega (arith, more)) (λ unchanged. absurd (omega (arith, more, unchanged)))
     (subst (λ ds. IsAt ds i agent.count agent.doing) (sym (append_none ds)) begun.at)
 
-begin_holds : (fixed : Fixed) (world : World) (i : ℕ) (job : Job) (ds : List Decided) (past : List EndedJob) → Holds fixed world ds past → (found : Option Actor) → actor_at world i ≡ found
-    → HoldsAfter fixed world None ds past (becomes world i (λ agent. begin fixed agent job) found)
-begin_holds fixed world i job ds past holds None is = with_none fixed world ds past holds
-begin_holds fixed world i job ds past holds (Some actor) is =
+begin_holds : (fixed : Fixed) (world : World) (i : ℕ) (actor : Actor) (job : Job) (ds : List Decided) (past : List EndedJob) → Holds fixed world ds past → actor_at world i ≡ Some actor
+    → Holds fixed (with_actor i (record actor { agent = begin fixed actor.agent job }) world) (ds ++ []) (past ++ [])
+begin_holds fixed world i actor job ds past holds is =
     let at : agent_at world i ≡ Some actor.agent = ap agent_of is in
     ⊎_elim
     (unchanged_put fixed world i actor (begin fixed actor.agent job) ds past holds is)
     (begun_put fixed world i actor (begin fixed actor.agent job) ds past holds is)
     (begins fixed actor.agent job i ds (holds.agents.index i actor.agent at) (not_begun (agent_at world) ds i actor.agent holds.agents at actor.agent.count (omega arith)))
 
-forget_holds : (fixed : Fixed) (world : World) (i site : ℕ) (ds : List Decided) (past : List EndedJob) → Holds fixed world ds past → (found : Option Actor) → actor_at world i ≡ found
-    → HoldsAfter fixed world None ds past (becomes world i (λ agent. forget agent site) found)
-forget_holds fixed world i site ds past holds None is = with_none fixed world ds past holds
-forget_holds fixed world i site ds past holds (Some actor) is = same_put fixed world i actor (forget actor.agent site) ds past holds is refl refl refl
+-- ---- a request that decides nothing
 
--- ---- the operator's requests
-
-operator_holds : (fixed : Fixed) (world : World) (server : ℕ) (asked : Request) (ds : List Decided) (past : List EndedJob) → Holds fixed world ds past → is_decide asked ≡ false
-    → to_decide asked ≡ None → (found : Option State) → server_at world server ≡ found
-    → HoldsAfter fixed world None ds past (operates world server asked found)
-operator_holds fixed world server asked ds past holds other none None is = with_none fixed world ds past holds
-operator_holds fixed world server asked ds past holds other none (Some st) is =
-    elim (is_full st stamped) as (λ b. is_full st stamped ≡ b → HoldsAfter fixed world None ds past (operated world st (cond b None (Some what)))) [
-      | true ↦ λ _. with_none fixed world ds past holds
-      | false ↦ λ room. subst (λ d. Holds fixed (after_serving st what world) (ds ++ option_to_list d) (past ++ [])) (ap (λ t. decided_at (server_at world server) t (decided_as None (answer_in (reply_of st asked)))) (sym none)) (record {
-        servers = kept_quietly fixed (server_at world) (server_at (after_serving st what world)) server st (served st stamped) ds
-            (puts_in world.servers server st (served st stamped) is) (stays_served st stamped room) holds.servers [] (quiet_served st stamped room other);
-        agents = subst (AreAt (agent_at world)) (sym (append_none ds)) holds.agents;
-        over = subst (AreOver (agent_at world) (ds ++ [])) (sym (append_none past)) (subst (λ ds. AreOver (agent_at world) ds past) (sym (append_none ds)) holds.over);
-        once = subst AreApart (sym (append_none ds)) holds.once;
-      })
-    ] refl
-  where
-    stamped : Stamped Request
-    stamped = record { stamp = 0; value = asked }
-
-    what : Served
-    what = record { server = server; request = stamped; reply = answer_of st stamped }
+quiet_holds : (fixed : Fixed) (world : World) (server : ℕ) (st : State) (asked : Stamped Request) (task : Option Task) (ds : List Decided) (past : List EndedJob) → Holds fixed world ds past → is_decide asked.value ≡ false
+    → server_at world server ≡ Some st → is_full st asked ≡ false → HoldsAfter fixed world task ds past (operated world st (Some (what_of server st asked)))
+quiet_holds fixed world server st asked task ds past holds other is room =
+    let new = after_serving st (what_of server st asked) world in
+    subst (λ d. Holds fixed new (ds ++ option_to_list d) (past ++ [])) (ap (λ t. decided_at (server_at world server) t (decided_as task (answer_in (reply_of st asked.value)))) (sym (no_decide asked.value other))) (record {
+      servers = kept_quietly fixed (server_at world) (server_at new) server st (served st asked) ds
+          (puts_in world.servers server st (served st asked) is) (stays_served st asked room) holds.servers [] (quiet_served st asked room other);
+      agents = subst (AreAt (agent_at world)) (sym (append_none ds)) holds.agents;
+      over = subst (AreOver (agent_at world) (ds ++ [])) (sym (append_none past)) (subst (λ ds. AreOver (agent_at world) ds past) (sym (append_none ds)) holds.over);
+      once = subst AreApart (sym (append_none ds)) holds.once;
+    })
 
 -- ---- an agent takes a response
 
@@ -258,61 +241,34 @@ kept_served fixed f g s st new ds more puts stays kept served =
     ⊎_elim (λ quiet. kept_quietly fixed f g s st new ds puts stays kept more quiet) (λ does. kept_deciding fixed f g s st new ds puts stays kept more does) served
 
 served_holds : (fixed : Fixed) (world : World) (i : ℕ) (actor : Actor) (asked : ℕ × Request) (st : State) (ds : List Decided) (past : List EndedJob) → Holds fixed world ds past
-    → actor_at world i ≡ Some actor → next_of fixed actor.agent ≡ Some asked → server_at world asked.0 ≡ Some st
-    → HoldsAfter fixed world (task_of actor.agent.doing) ds past (answered fixed world i actor st (serve asked.0 st (record { stamp = actor.stamp; value = asked.1 })))
-served_holds fixed world i actor asked st ds past holds is next at =
-    elim (is_full st stamped) as (λ b. is_full st stamped ≡ b → HoldsAfter fixed world (task_of actor.agent.doing) ds past (answered fixed world i actor st (cond b None (Some what)))) [
-      | true ↦ λ _. lacked_holds fixed world i actor asked lack.Full (task_of actor.agent.doing) ds past holds is next
-      | false ↦ λ room.
-          let come = goes fixed actor.agent i ds asked.0 st stamped actor.agent.doing refl (holds.agents.at i actor.agent (ap agent_of is)) next room (λ t v has. holds.servers.recorded asked.0 st t v at has) in
-          subst (λ d. Holds fixed (with_actor i (moved actor (answer_of st stamped).stamp (take fixed actor.agent (Replied (reply_of st asked.1)))) (after_serving st what world))
-          (ds ++ option_to_list d) (past ++ option_to_list (outcome_of i actor (take fixed actor.agent (Replied (reply_of st asked.1))).ending)))
-          (ap (λ found. decided_at found (to_decide asked.1) (decided_as (task_of actor.agent.doing) (answer_in (reply_of st asked.1)))) (sym at))
-          (took_holds fixed world (slice_set world.servers asked.0 (served st stamped)) i actor asked (Replied (reply_of st asked.1)) (answer_of st stamped).stamp ds
-          (option_to_list (decides_by st (task_of actor.agent.doing) asked.1 (reply_of st asked.1))) past holds is next
-          (kept_served fixed (server_at world) (slice_get (slice_set world.servers asked.0 (served st stamped))) asked.0 st (served st stamped) ds _
-          (puts_in world.servers asked.0 st (served st stamped) at) (stays_served st stamped room) holds.servers come.served)
-          come.of come.says
-          (apart_served fixed (server_at world) asked.0 st (served st stamped) ds _ at holds.servers holds.once come.served))
-    ] refl
-  where
-    stamped : Stamped Request
-    stamped = record { stamp = actor.stamp; value = asked.1 }
-
-    what : Served
-    what = record { server = asked.0; request = stamped; reply = answer_of st stamped }
-
-step_holds : (fixed : Fixed) (world : World) (i : ℕ) (ds : List Decided) (past : List EndedJob) → Holds fixed world ds past → (found : Option Actor) → actor_at world i ≡ found
-    → HoldsAfter fixed world (task_at found) ds past (steps_once fixed world i found)
-step_holds fixed world i ds past holds None is = with_none fixed world ds past holds
-step_holds fixed world i ds past holds (Some actor) is = of (next_of fixed actor.agent) refl
-  where
-    at : (asked : ℕ × Request) → next_of fixed actor.agent ≡ Some asked → (st : Option State) → server_at world asked.0 ≡ st → HoldsAfter fixed world (task_of actor.agent.doing) ds past (asks_at fixed world i actor asked st)
-    at asked next None there = with_none fixed world ds past holds
-    at asked next (Some st) there = served_holds fixed world i actor asked st ds past holds is next there
-
-    of : (asked : Option (ℕ × Request)) → next_of fixed actor.agent ≡ asked → HoldsAfter fixed world (task_of actor.agent.doing) ds past (asks fixed world i actor asked)
-    of None next = with_none fixed world ds past holds
-    of (Some asked) next = at asked next (server_at world asked.0) refl
-
-lack_holds : (fixed : Fixed) (world : World) (i : ℕ) (why : Why) (ds : List Decided) (past : List EndedJob) → Holds fixed world ds past → (found : Option Actor)
-    → actor_at world i ≡ found → HoldsAfter fixed world None ds past (lacks fixed world i (Lacked why) found)
-lack_holds fixed world i why ds past holds None is = with_none fixed world ds past holds
-lack_holds fixed world i why ds past holds (Some actor) is = of (next_of fixed actor.agent) refl
-  where
-    of : (asked : Option (ℕ × Request)) → next_of fixed actor.agent ≡ asked → HoldsAfter fixed world None ds past (lacks_for fixed world i actor (Lacked why) asked)
-    of None next = with_none fixed world ds past holds
-    of (Some asked) next = lacked_holds fixed world i actor asked why None ds past holds is next
+    → actor_at world i ≡ Some actor → next_of fixed actor.agent ≡ Some asked → server_at world asked.0 ≡ Some st → is_full st (sent actor asked.1) ≡ false
+    → HoldsAfter fixed world (task_of actor.agent.doing) ds past (answered fixed world i actor st (Some (what_of asked.0 st (sent actor asked.1))))
+served_holds fixed world i actor asked st ds past holds is next at room =
+    let stamped = sent actor asked.1 in
+    let come = goes fixed actor.agent i ds asked.0 st stamped actor.agent.doing refl (holds.agents.at i actor.agent (ap agent_of is)) next room (λ t v has. holds.servers.recorded asked.0 st t v at has) in
+    subst (λ d. Holds fixed (with_actor i (moved actor (answer_of st stamped).stamp (take fixed actor.agent (Replied (reply_of st asked.1)))) (after_serving st (what_of asked.0 st stamped) world))
+    (ds ++ option_to_list d) (past ++ option_to_list (outcome_of i actor (take fixed actor.agent (Replied (reply_of st asked.1))).ending)))
+    (ap (λ found. decided_at found (to_decide asked.1) (decided_as (task_of actor.agent.doing) (answer_in (reply_of st asked.1)))) (sym at))
+    (took_holds fixed world (slice_set world.servers asked.0 (served st stamped)) i actor asked (Replied (reply_of st asked.1)) (answer_of st stamped).stamp ds
+    (option_to_list (decides_by st (task_of actor.agent.doing) asked.1 (reply_of st asked.1))) past holds is next
+    (kept_served fixed (server_at world) (slice_get (slice_set world.servers asked.0 (served st stamped))) asked.0 st (served st stamped) ds _
+    (puts_in world.servers asked.0 st (served st stamped) at) (stays_served st stamped room) holds.servers come.served)
+    come.of come.says
+    (apart_served fixed (server_at world) asked.0 st (served st stamped) ds _ at holds.servers holds.once come.served))
 
 -- ---- every event
 
 pub event_holds : (fixed : Fixed) (world : World) (event : Event) (ds : List Decided) (past : List EndedJob) → Holds fixed world ds past → HoldsAfter fixed world (task_in world event) ds past (step fixed world event)
-event_holds fixed world (Begin i job) ds past holds = begin_holds fixed world i job ds past holds (actor_at world i) refl
-event_holds fixed world (Step i) ds past holds = step_holds fixed world i ds past holds (actor_at world i) refl
-event_holds fixed world (Crash server) ds past holds = operator_holds fixed world server request.Crash ds past holds refl refl (server_at world server) refl
-event_holds fixed world (Return server) ds past holds = operator_holds fixed world server request.Return ds past holds refl refl (server_at world server) refl
-event_holds fixed world (Forget i site) ds past holds = forget_holds fixed world i site ds past holds (actor_at world i) refl
-event_holds fixed world (Lack i why) ds past holds = lack_holds fixed world i why ds past holds (actor_at world i) refl
+event_holds fixed world event ds past holds = by_moves fixed world (λ event stepped. HoldsAfter fixed world (task_in world event) ds past stepped) (record {
+  nothing = λ event. with_none fixed world ds past holds;
+  begins = λ number actor job is. begin_holds fixed world number actor job ds past holds is;
+  forgets = λ number actor site is. same_put fixed world number actor (forget actor.agent site) ds past holds is refl refl refl;
+  answers = λ number actor asked st is next there room.
+      subst (λ found. HoldsAfter fixed world (task_at found) ds past (answered fixed world number actor st (Some (what_of asked.0 st (sent actor asked.1))))) (sym is) (served_holds fixed world number actor asked st ds past holds is next there room);
+  lacks = λ event number actor asked why by is next. lacked_holds fixed world number actor asked why (task_in world event) ds past holds is next;
+  operates = λ event server asked st is there room.
+      quiet_holds fixed world server st (unstamped asked) (task_in world event) ds past holds (of_operator (λ asked. is_decide asked ≡ false) refl refl event server asked is) there room;
+}) event
 
 pub cons_is : {X : Type 0} (one : Option X) (xs : List X) → option_to_list one ++ xs ≡ cons_option one xs
 cons_is one xs = search arith

@@ -1,22 +1,22 @@
 -- Requests for locks move the machine, and what lets locks go.
 use Rattle.law_server_moves.proofs.Vocabulary.{◌≡◌, ℕ, Bool, true, false, cond, [], ◌∷◌, Option, Some, None, refl, ap, subst, ◌∙◌, ◌==◌, ◌&&◌, ◌||◌, not, LockMode, Exclusive, is_exclusive, Lock, Request, Reply, rise, arith, in_the_way, has_lock}
-use Rattle.law_server_moves.proofs.Vocabulary.{broken, copy_of, State, locking_reply, after_locking, poll_reply, after_poll, after_crash, lock_there, way_free, with_locked, Beginning, World, set1, Event, Held, Upgrade, Lose, upgraded, lost, IsFree}
+use Rattle.law_server_moves.proofs.Vocabulary.{broken, copy_of, State, locking_reply, after_locking, poll_reply, after_poll, after_crash, lock_there, way_free, with_locked, Beginning, World, set1, Event, Grant, Raise, Lose, lost, IsFree}
 use Rattle.law_server_moves.proofs.Vocabulary.{MayLose, itself, one_is, hold_of, ShowsAt, Shows, is_prepared, left_by_break, left_by_crash, moves, Follows}
 use Rattle.rep_core.specs.declared.request.Request.TheVariants as request
 use Rattle.rep_core.specs.declared.reply.Reply.TheVariants as reply
 use Rattle.law_suite_machine.specs.Events as events
 use Rattle.law_server_moves.proofs.Placing.{here2}
 use Rattle.law_server_moves.proofs.Holds.{hold_none, hold_some, hold_at-new, hold_at-elsewhere, hold_at-raised, hold_at-crashed, hold_at-broken, hold_at-unbroken}
-use Rattle.law_server_moves.proofs.Elsewhere.{held_apart, upgraded_apart, broken_apart, crashed_apart}
+use Rattle.law_server_moves.proofs.Elsewhere.{granted_apart, raised_apart, broken_apart, crashed_apart}
 use Rattle.law_server_moves.proofs.Keeping.{shows_moved, stays, nothing}
 
 -- ---- the machine at the server that is asked
 
-held_here : (z : ℕ) (st : State) (w : World) (i t : ℕ) (m : LockMode) → ShowsAt z st w i → rise st.locks ≡ true → w.lock i t ≡ None → ShowsAt z (with_locked t z m st) (events.held w i t (is_exclusive m)) i
-held_here z st w i t m shows up none = search (here2, hold_at-new, hold_none, arith)
+granted_here : (z : ℕ) (st : State) (w : World) (i t : ℕ) (m : LockMode) → ShowsAt z st w i → rise st.locks ≡ true → w.lock i t ≡ None → ShowsAt z (with_locked t z m st) (events.granted w i t (is_exclusive m)) i
+granted_here z st w i t m shows up none = search (here2, hold_at-new, hold_none, arith)
 
-upgraded_here : (z : ℕ) (st : State) (w : World) (i t : ℕ) → ShowsAt z st w i → rise st.locks ≡ true → has_lock t z st.locks ≡ true → ShowsAt z (with_locked t z Exclusive st) (upgraded w i t) i
-upgraded_here z st w i t shows up has = search (here2, hold_at-raised, arith)
+raised_here : (z : ℕ) (st : State) (w : World) (i t : ℕ) → ShowsAt z st w i → rise st.locks ≡ true → has_lock t z st.locks ≡ true → ShowsAt z (with_locked t z Exclusive st) (events.raised w i t) i
+raised_here z st w i t shows up has = search (here2, hold_at-raised, arith)
 
 broken_here : (z : ℕ) (st : State) (w : World) (i t : ℕ) → ShowsAt z st w i → rise st.locks ≡ true → ShowsAt z (record st { locks = broken t z st.locks }) (lost w (left_by_break w i t)) i
 broken_here z st w i t shows up = search (itself, hold_at-broken, arith)
@@ -41,40 +41,40 @@ module _ (start : Beginning) (z : ℕ) (home : ℕ → ℕ) (servers : ℕ → S
 
   -- ---- Poll
 
-  -- the agent asks a server for a lock of a suite once, and the machine has no lock of which nothing was told
-  poll_held : (t : ℕ) (m : LockMode) → w.told i t ≡ None → w.lock i t ≡ None → in_the_way t z m (servers i).locks ≡ None → Follows start z home (set1 servers i (with_locked t z m (servers i))) w (Held i t (is_exclusive m) ∷ [])
-  poll_held t m untold unlocked none = record {
-    obeys = (record { untold = untold; free = free_way z (servers i) w i t m (shows.at i) none }, tt);
-    shows = shows_moved z home servers i (with_locked t z m (servers i)) w (events.held w i t (is_exclusive m)) shows refl (λ t. refl)
-        (held_here z (servers i) w i t m (shows.at i) up unlocked)
-        (λ j apart. held_apart z (servers j) w i j apart (shows.at j) t (is_exclusive m));
+  -- the agent asks a server for a lock of a suite once, and the machine has no lock that was never set
+  poll_held : (t : ℕ) (m : LockMode) → w.granted i t ≡ false → w.lock i t ≡ None → in_the_way t z m (servers i).locks ≡ None → Follows start z home (set1 servers i (with_locked t z m (servers i))) w (Grant i t (is_exclusive m) ∷ [])
+  poll_held t m ungranted unlocked none = record {
+    obeys = (record { ungranted = ungranted; free = free_way z (servers i) w i t m (shows.at i) none }, tt);
+    shows = shows_moved z home servers i (with_locked t z m (servers i)) w (events.granted w i t (is_exclusive m)) shows refl (λ t. refl)
+        (granted_here z (servers i) w i t m (shows.at i) up unlocked)
+        (λ j apart. granted_apart z (servers j) w i j apart (shows.at j) t (is_exclusive m));
   }
 
   locked_elsewhere : (t s : ℕ) (m : LockMode) → (z == s) ≡ false → Follows start z home (set1 servers i (with_locked t s m (servers i))) w []
   locked_elsewhere t s m other = stays start z home servers i (with_locked t s m (servers i)) w shows (λ t. refl) (record { copy = refl; lock = λ u. hold_at-elsewhere t s m (servers i).locks up z u other; plan = refl })
 
-  pub poll_moves : (t s : ℕ) (m : LockMode) → (z ≡ s → w.told i t ≡ None) → (w.told i t ≡ None → w.lock i t ≡ None) → (o : Option Lock) → in_the_way t s m (servers i).locks ≡ o
+  pub poll_moves : (t s : ℕ) (m : LockMode) → (z ≡ s → w.granted i t ≡ false) → (w.granted i t ≡ false → w.lock i t ≡ None) → (o : Option Lock) → in_the_way t s m (servers i).locks ≡ o
       → Comes (request.Poll t s m) (locking_reply o (copy_of (servers i).store s)) (after_locking o t s m (servers i))
   poll_moves t s m once unlocked (Some other) e = nothing start z home servers i w shows
   poll_moves t s m once unlocked None e =
-      elim (z == s) as (λ b. (z == s) ≡ b → Follows start z home (set1 servers i (with_locked t s m (servers i))) w (cond b (Held i t (is_exclusive m) ∷ []) [])) [
+      elim (z == s) as (λ b. (z == s) ≡ b → Follows start z home (set1 servers i (with_locked t s m (servers i))) w (cond b (Grant i t (is_exclusive m) ∷ []) [])) [
         | true ↦ λ is.
             let same = one_is s z is in
-            let untold = once same in
-            subst (λ s. in_the_way t s m (servers i).locks ≡ None → Follows start z home (set1 servers i (with_locked t s m (servers i))) w (Held i t (is_exclusive m) ∷ [])) same (poll_held t m untold (unlocked untold)) e
+            let ungranted = once same in
+            subst (λ s. in_the_way t s m (servers i).locks ≡ None → Follows start z home (set1 servers i (with_locked t s m (servers i))) w (Grant i t (is_exclusive m) ∷ [])) same (poll_held t m ungranted (unlocked ungranted)) e
         | false ↦ λ other. locked_elsewhere t s m other
       ] refl
 
   -- ---- Upgrade
 
-  upgrade_held : (t : ℕ) → has_lock t z (servers i).locks ≡ true → in_the_way t z Exclusive (servers i).locks ≡ None → Follows start z home (set1 servers i (with_locked t z Exclusive (servers i))) w (Upgrade i t ∷ [])
+  upgrade_held : (t : ℕ) → has_lock t z (servers i).locks ≡ true → in_the_way t z Exclusive (servers i).locks ≡ None → Follows start z home (set1 servers i (with_locked t z Exclusive (servers i))) w (Raise i t ∷ [])
   upgrade_held t has none =
       let lock = lock_there t z (servers i).locks has in
       record {
         obeys = (record { lock = _; stands = (shows.at i).lock t ∙ ap hold_of lock.1; free = free_way z (servers i) w i t Exclusive (shows.at i) none }, tt);
-        shows = shows_moved z home servers i (with_locked t z Exclusive (servers i)) w (upgraded w i t) shows refl (λ t. refl)
-            (upgraded_here z (servers i) w i t (shows.at i) up has)
-            (λ j apart. upgraded_apart z (servers j) w i j apart (shows.at j) t);
+        shows = shows_moved z home servers i (with_locked t z Exclusive (servers i)) w (events.raised w i t) shows refl (λ t. refl)
+            (raised_here z (servers i) w i t (shows.at i) up has)
+            (λ j apart. raised_apart z (servers j) w i j apart (shows.at j) t);
       }
 
   raising : (t s : ℕ) → has_lock t s (servers i).locks ≡ true → (o : Option Lock) → in_the_way t s Exclusive (servers i).locks ≡ o

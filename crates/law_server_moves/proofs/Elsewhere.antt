@@ -1,14 +1,15 @@
 -- What each event of the machine leaves at the servers that it does not name.
-use Rattle.law_server_moves.proofs.Vocabulary.{◌≡◌, ℕ, Bool, List, Option, ap, ◌∙◌, ◌==◌, ◌&&◌, ◌||◌, not, Replica, State, World, Verdict, Entry, held, upgraded, prepared, finished, lost, decided, kept, another, ShowsAt, is_prepared, left_by_break}
+use Rattle.law_server_moves.proofs.Vocabulary.{◌≡◌, ℕ, Bool, List, Option, ap, ◌∙◌, ◌==◌, ◌&&◌, ◌||◌, not, Replica, State, World, Verdict, Entry, prepared, finished, lost, decided, kept, another, ShowsAt, is_prepared, left_by_break}
 use Rattle.law_server_moves.proofs.Vocabulary.{left_by_crash}
+use Rattle.law_suite_machine.specs.Events as events
 use Rattle.law_server_moves.proofs.Placing.{there1, there2}
 
 module _ (suite : ℕ) (st : State) (w : World) (i j : ℕ) (apart : j ≡ i → ⊥) (shows : ShowsAt suite st w j) where
-  pub held_apart : (t : ℕ) (exclusive : Bool) → ShowsAt suite st (held w i t exclusive) j
-  held_apart t exclusive = record { copy = shows.copy; lock = λ u. there2 w.lock i t _ j u apart ∙ shows.lock u; plan = shows.plan }
+  pub granted_apart : (t : ℕ) (exclusive : Bool) → ShowsAt suite st (events.granted w i t exclusive) j
+  granted_apart t exclusive = record { copy = shows.copy; lock = λ u. there2 w.lock i t _ j u apart ∙ shows.lock u; plan = shows.plan }
 
-  pub upgraded_apart : (t : ℕ) → ShowsAt suite st (upgraded w i t) j
-  upgraded_apart t = record { copy = shows.copy; lock = λ u. there2 w.lock i t _ j u apart ∙ shows.lock u; plan = shows.plan }
+  pub raised_apart : (t : ℕ) → ShowsAt suite st (events.raised w i t) j
+  raised_apart t = record { copy = shows.copy; lock = λ u. there2 w.lock i t _ j u apart ∙ shows.lock u; plan = shows.plan }
 
   pub prepared_apart : (t : ℕ) (left : Option Replica) → ShowsAt suite st (prepared w i t left) j
   prepared_apart t left = record { copy = shows.copy; lock = λ u. there2 w.lock i t _ j u apart ∙ shows.lock u; plan = there1 w.plan i _ j apart ∙ shows.plan }

@@ -1,7 +1,7 @@
 -- The lock that the machine has of a transaction, after each change of a server's locks.
 use Rattle.law_server_moves.proofs.Vocabulary.{◌≡◌, ℕ, Bool, true, false, cond, List, Option, Some, None, sym, ap, ◌∙◌, arith, ◌==◌, ◌&&◌, ◌||◌, not, option_map, nat_tests, LockMode, Exclusive, is_exclusive, stronger, Lock, Part, rise, lock_at}
 use Rattle.law_server_moves.proofs.Vocabulary.{has_lock, with_prepared, released, broken, prepared_locks, lock_there, taken, ready, names, if_prepared, lock_at-locked, lock_at-prepared, lock_at-released, lock_at-crashed, lock_at-broken, Hold}
-use Rattle.law_server_moves.proofs.Vocabulary.{upgraded_hold, prepared_hold, kept, hold_of, is_prepared, locked}
+use Rattle.law_server_moves.proofs.Vocabulary.{raised_hold, prepared_hold, kept, hold_of, is_prepared, locked}
 
 -- ---- tests
 
@@ -32,7 +32,7 @@ hold_if b a o = search arith
 -- ---- a lock that is taken
 
 module _ (t z : ℕ) (m : LockMode) (ls : List Lock) (up : rise ls ≡ true) where
-  hold_at-taken : (u : ℕ) (o : Option Lock) → lock_at t z ls ≡ o → hold_of (lock_at u z (locked t z m ls)) ≡ cond (u == t) (hold_of (Some (taken t z m o))) (hold_of (lock_at u z ls))
+  pub hold_at-taken : (u : ℕ) (o : Option Lock) → lock_at t z ls ≡ o → hold_of (lock_at u z (locked t z m ls)) ≡ cond (u == t) (hold_of (Some (taken t z m o))) (hold_of (lock_at u z ls))
   hold_at-taken u o is = search (lock_at-locked, here, taken, hold_if, arith)
 
   -- a new one
@@ -47,12 +47,12 @@ always_exclusive : (m : LockMode) → is_exclusive (stronger m Exclusive) ≡ tr
 always_exclusive m = search arith
 
 -- one that becomes exclusive
-pub hold_at-raised : (t z : ℕ) (ls : List Lock) → rise ls ≡ true → (u : ℕ) → has_lock t z ls ≡ true → hold_of (lock_at u z (locked t z Exclusive ls)) ≡ cond (u == t) (upgraded_hold (hold_of (lock_at t z ls))) (hold_of (lock_at u z ls))
+pub hold_at-raised : (t z : ℕ) (ls : List Lock) → rise ls ≡ true → (u : ℕ) → has_lock t z ls ≡ true → hold_of (lock_at u z (locked t z Exclusive ls)) ≡ cond (u == t) (raised_hold (hold_of (lock_at t z ls))) (hold_of (lock_at u z ls))
 hold_at-raised t z ls up u has =
     let own = lock_there t z ls has in
     hold_at-taken t z Exclusive ls up u (Some own.0) own.1
     ∙ (λ k. cond (u == t) (Some (record { exclusive = always_exclusive own.0.mode k; prepared = own.0.prepared })) (hold_of (lock_at u z ls)))
-    ∙ ap (λ o. cond (u == t) (upgraded_hold (hold_of o)) (hold_of (lock_at u z ls))) (sym own.1)
+    ∙ ap (λ o. cond (u == t) (raised_hold (hold_of o)) (hold_of (lock_at u z ls))) (sym own.1)
 
 -- ---- locks that are prepared
 

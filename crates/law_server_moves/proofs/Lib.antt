@@ -10,4 +10,6 @@ pub mod Preparing
 pub mod Steps
 pub mod Opening
 pub mod Replies
+pub mod Heard
+pub mod Late
 pub mod Witness

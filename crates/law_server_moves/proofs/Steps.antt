@@ -9,7 +9,7 @@ use Rattle.law_server_moves.proofs.Ending.{finish_moves, decide_moves, resolve_m
 use Rattle.law_server_moves.proofs.Preparing.{prepare_moves}
 
 module _ (start : Beginning) (z : ℕ) (home : ℕ → ℕ) (servers : ℕ → State) (i : ℕ) (w : World) (decision : Event) (shows : Shows z home servers w)
-    (consistent : IsConsistent (servers i)) (unlocked : (t : ℕ) → w.told i t ≡ None → w.lock i t ≡ None) where
+    (consistent : IsConsistent (servers i)) (unlocked : (t : ℕ) → w.granted i t ≡ false → w.lock i t ≡ None) where
   abbrev Comes : Request → Reply → State → Type 0
   Comes asked said new = Follows start z home (set1 servers i new) w (moves z home decision i w asked said)
 

@@ -6,7 +6,7 @@ pub use Rattle.std.specs.List.{list_any}
 pub use Rattle.std.specs.Ordering.{nat_cmp}
 pub use Rattle.law_suite_machine.proofs.Places.{another, at1, itself, one_is, one_not}
 pub use Rattle.law_suite_machine.specs.Conditions.{IsFree, IsTake, MayFinish, MayLose, MayPrepare}
-pub use Rattle.law_suite_machine.specs.Events.{Event, Finish, Held, Lose, Overrule, Upgrade, aimed, copy_after, decided, finished, given_up, held, kept, lost, plan_after, prepared, prepared_hold, run, upgraded, upgraded_hold}
+pub use Rattle.law_suite_machine.specs.Events.{Event, Finish, Grant, Hear, Lose, Overrule, Raise, aimed, copy_after, decided, finished, given_up, kept, lost, plan_after, prepared, prepared_hold, raised_hold, run}
 pub use Rattle.law_suite_machine.specs.Machine.{Aborted, Hold, Verdict, World, begun, set1, set2}
 pub use Rattle.law_suite_machine.specs.Registers.{Beginning, Change, Entry, IsBeginning, empty_of}
 pub use Rattle.rep_core.proofs.LockLookups.{if_prepared, lock_at-broken, lock_at-crashed, lock_at-locked, lock_at-prepared, lock_at-released, lock_there, names, one_each, ready, taken, way_free}
@@ -34,7 +34,7 @@ pub use Rattle.suite_prefix.specs.declared.lock_mode.LockMode.{LockMode}
 pub use Rattle.suite_prefix.specs.declared.lock_mode.LockMode.TheVariants.{Exclusive}
 pub use Rattle.vote_core.specs.Validity.{IsValid}
 pub use Rattle.law_server_moves.specs.Agents.{AgentSide, Decides}
-pub use Rattle.law_server_moves.specs.Laws.{EachStepMoves, Follows, OpeningShows, RepliesTell, SomeStepMoves, Tells, TellsContent, TellsCopy, beginning}
-pub use Rattle.law_server_moves.specs.Moves.{first_verdict, is_prepared, left_by_break, left_by_crash, moves, prepare_of}
+pub use Rattle.law_server_moves.specs.Laws.{EachReplyIsHeard, EachStepMoves, Follows, OpeningShows, RepliesTell, SomeStepMoves, Tells, TellsContent, TellsCopy, beginning}
+pub use Rattle.law_server_moves.specs.Moves.{first_verdict, hears, is_prepared, left_by_break, left_by_crash, moves, prepare_of}
 pub use Rattle.law_server_moves.specs.Preparing.{GoesBy, Sends, SendsFixed, left_of, part_of}
 pub use Rattle.law_server_moves.specs.Views.{Shows, ShowsAt, ended_as, hold_of, plan_of, verdict_of}

@@ -1,5 +1,5 @@
 -- A step that moves the machine: at a server of one, a transaction with an exclusive lock prepares a new prefix of the root.
-use Rattle.law_server_moves.proofs.Vocabulary.{◌≡◌, ℕ, true, [], ◌∷◌, None, refl, subst, arith, IsValid, Prefix, Folder, Opening, Exclusive, Part, Request, Stamped, left_by, root_copy, State, opening, step, World, set1, begun, Overrule, held, aimed}
+use Rattle.law_server_moves.proofs.Vocabulary.{◌≡◌, ℕ, true, false, [], ◌∷◌, None, refl, subst, arith, IsValid, Prefix, Folder, Opening, Exclusive, Part, Request, Stamped, left_by, root_copy, State, opening, step, World, set1, begun, Overrule, aimed}
 use Rattle.law_server_moves.proofs.Vocabulary.{Beginning, Change, Shows, SendsFixed, beginning, SomeStepMoves}
 use Rattle.std.specs.FinSet.{empty}
 use Rattle.std.proofs.lemmas.Option.{same_Some}
@@ -9,6 +9,7 @@ use Rattle.rep_core.proofs.Consistent.{consistent_opening, consistent_step}
 use Rattle.std.specs.List.{IsDistinct}
 use Rattle.rep_core.specs.declared.request.Take.TheVariants as take
 use Rattle.rep_core.specs.declared.request.Request.TheVariants as request
+use Rattle.law_suite_machine.specs.Events as events
 use Rattle.law_server_moves.proofs.Opening.{opening_shows}
 
 votes : Configuration
@@ -61,13 +62,13 @@ start : Beginning
 start = beginning 0 settings
 
 before : World
-before = aimed (held (begun start) 0 5 true) 5 new
+before = aimed (events.heard (events.granted (begun start) 0 5 true) 0 5 true) 5 new
 
 before_shows : Shows 0 at_home locked before
 unfolding opened polled locked start before settings
 before_shows = search arith
 
-unlocked : (t : ℕ) → before.told 0 t ≡ None → before.lock 0 t ≡ None
+unlocked : (t : ℕ) → before.granted 0 t ≡ false → before.lock 0 t ≡ None
 unfolding before start settings
 unlocked t none = grind (arith)
 
@@ -91,7 +92,7 @@ some_step_moves = record {
   begins = (opening_shows 0 at_home settings valid_votes).0;
   shows = before_shows;
   consistent = consistent_step (opened 0) polled (consistent_opening 0 settings);
-  untold = unlocked;
+  ungranted = unlocked;
   agent = λ part is. subst (λ part. SendsFixed before (locked 0).locks 5 part) (same_Some new_part part is) sends;
   not_full = refl;
   replies = refl;

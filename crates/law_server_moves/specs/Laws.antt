@@ -23,7 +23,7 @@ use Rattle.law_suite_machine.specs.Events.{Event, Prepare, run}
 use Rattle.law_suite_machine.specs.Conditions.{Obeys}
 use Rattle.law_server_moves.specs.Views.{Shows, ended_as}
 use Rattle.law_server_moves.specs.Agents.{AgentSide}
-use Rattle.law_server_moves.specs.Moves.{moves}
+use Rattle.law_server_moves.specs.Moves.{moves, hears}
 
 -- ---- a request that is served
 
@@ -38,10 +38,19 @@ abbrev pub EachStepMoves : Type 0
 EachStepMoves =
     (start : Beginning) (z : ℕ) (home : ℕ → ℕ) (servers : ℕ → State) (i : ℕ) (w : World) (decision : Event) (asked : Stamped Request)
     → Shows z home servers w → IsConsistent (servers i)
-    → ((t : ℕ) → w.told i t ≡ None → w.lock i t ≡ None)
+    → ((t : ℕ) → w.granted i t ≡ false → w.lock i t ≡ None)
     → AgentSide start z home decision i (servers i).locks w asked.value
     → is_full (servers i) asked ≡ false
     → Follows start z home (set1 servers i (step (servers i) asked)) w (moves z home decision i w asked.value (reply_of (servers i) asked.value))
+
+-- Where a server has served a request, its agent may hear of its lock by the reply, and the machine still shows the servers.
+abbrev pub EachReplyIsHeard : Type 0
+EachReplyIsHeard =
+    (start : Beginning) (z : ℕ) (home : ℕ → ℕ) (servers : ℕ → State) (i : ℕ) (later : World) (asked : Stamped Request)
+    → IsConsistent (servers i)
+    → is_full (servers i) asked ≡ false
+    → Shows z home (set1 servers i (step (servers i) asked)) later
+    → Follows start z home (set1 servers i (step (servers i) asked)) later (hears z i asked.value (reply_of (servers i) asked.value))
 
 -- ---- what a reply tells
 
@@ -101,7 +110,7 @@ pub record SomeStepMoves : Type 0 where
   pub begins : IsBeginning start
   pub shows : Shows z home servers w
   pub consistent : IsConsistent (servers i)
-  pub untold : (t : ℕ) → w.told i t ≡ None → w.lock i t ≡ None
+  pub ungranted : (t : ℕ) → w.granted i t ≡ false → w.lock i t ≡ None
   pub agent : AgentSide start z home decision i (servers i).locks w (request.Prepare t parts)
   pub not_full : is_full (servers i) (record { stamp = 0; value = request.Prepare t parts }) ≡ false
   pub replies : reply_of (servers i) (request.Prepare t parts) ≡ reply.Prepared

@@ -3,3 +3,4 @@ pub mod Preparing
 pub mod Moves
 pub mod Agents
 pub mod Laws
+pub mod Licences

@@ -1,6 +1,6 @@
--- Locks that are set, upgraded and lost.
-use Rattle.law_suite_machine.proofs.Vocabulary.{◌≡◌, ℕ, Bool, true, inl, inr, Option, Some, None, refl, sym, ap, ◌∙◌, World, Hold, Told, set2, held, upgraded, upgraded_hold, upgraded_told, lost, IsFree, MayHold, MayUpgrade, arith, MayLose}
-use Rattle.law_suite_machine.proofs.Places.{at2, at2_both}
+-- Locks that are set, become exclusive, are told of, and are lost.
+use Rattle.law_suite_machine.proofs.Vocabulary.{◌≡◌, ℕ, Bool, true, false, inl, inr, Option, Some, None, refl, sym, ap, ◌∙◌, World, Hold, set2, granted, raised, raised_hold, heard, lost, IsFree, MayGrant, MayRaise, MayHear, arith, MayLose}
+use Rattle.law_suite_machine.proofs.Places.{IsAt, at2}
 use Rattle.law_suite_machine.proofs.Sound.{Sound, some_hold, some_told}
 
 -- where a lock is set that no other stands in the way of, exclusive ones still stand alone
@@ -18,46 +18,56 @@ set_alone w s i t e o mode free j u x h k lu lx ex =
     lx)
     lu
 
--- ---- Held
+-- ---- a lock is set
 
-pub held_sound : (w : World) → Sound w → (i t : ℕ) (e : Bool) → MayHold w i t e → Sound (held w i t e)
-held_sound w s i t e may = search arith
+pub granted_sound : (w : World) → Sound w → (i t : ℕ) (e : Bool) → MayGrant w i t e → Sound (granted w i t e)
+granted_sound w s i t e may = search arith
 
--- ---- Upgrade
+-- ---- it becomes exclusive
 
-upgraded_from : (o : Option Hold) (h : Hold) → upgraded_hold o ≡ Some h → (k : Hold) × (o ≡ Some k) × (h.exclusive ≡ true)
-upgraded_from None h e = cc
-upgraded_from (Some k) h e = (k, refl, sym (ap (λ (h : Hold). h.exclusive) (some_hold _ h e)))
+raised_from : (o : Option Hold) (h : Hold) → raised_hold o ≡ Some h → (k : Hold) × (o ≡ Some k) × (h.exclusive ≡ true)
+raised_from None h e = cc
+raised_from (Some k) h e = (k, refl, sym (ap (λ (h : Hold). h.exclusive) (some_hold _ h e)))
 
-upgraded_prepared : (o : Option Hold) (h : Hold) → o ≡ Some h → h.prepared ≡ true → (k : Hold) × (upgraded_hold o ≡ Some k) × (k.prepared ≡ true)
-upgraded_prepared None h e p = cc
-upgraded_prepared (Some k) h e p = (record { exclusive = true; prepared = k.prepared }, refl, ap (λ (h : Hold). h.prepared) (some_hold k h e) ∙ p)
+raised_prepared : (o : Option Hold) (h : Hold) → o ≡ Some h → h.prepared ≡ true → (k : Hold) × (raised_hold o ≡ Some k) × (k.prepared ≡ true)
+raised_prepared None h e p = cc
+raised_prepared (Some k) h e p = (record { exclusive = true; prepared = k.prepared }, refl, ap (λ (h : Hold). h.prepared) (some_hold k h e) ∙ p)
 
-told_none : (o : Option Told) → upgraded_told o ≡ None → o ≡ None
-told_none None e = refl
-told_none (Some a) e = cc
+granted_here : (w : World) (i t j u : ℕ) → IsAt i t j u → w.granted j u ≡ false → w.granted i t ≡ false
+granted_here w i t j u here e = (λ k. w.granted (sym here.0 k) (sym here.1 k)) ∙ e
 
-pub told_from : (o : Option Told) (a : Told) → upgraded_told o ≡ Some a → (b : Told) × (o ≡ Some b) × (b.copy ≡ a.copy)
-told_from None a e = cc
-told_from (Some b) a e = (b, refl, ap (λ (a : Told). a.copy) (some_told _ a e))
-
-pub upgraded_sound : (w : World) → Sound w → (i t : ℕ) → MayUpgrade w i t → Sound (upgraded w i t)
-upgraded_sound w s i t may =
-    let new = upgraded_hold (w.lock i t) in
-    let says = upgraded_told (w.told i t) in
+pub raised_sound : (w : World) → Sound w → (i t : ℕ) → MayRaise w i t → Sound (raised w i t)
+raised_sound w s i t may =
+    let new = raised_hold (w.lock i t) in
     record {
-      alone = set_alone w s i t true new (λ h eh. (upgraded_from (w.lock i t) h eh).2) may.free;
+      alone = set_alone w s i t true new (λ h eh. (raised_from (w.lock i t) h eh).2) may.free;
       planned = search (at2, arith);
       aims = s.aims;
-      asked = λ j u. at2_both (λ o l. o ≡ None → l ≡ None) w.told w.lock i t says new j u (λ _ n. ap upgraded_hold (s.asked i t (told_none _ n))) (λ _. s.asked j u);
-      shown = search (at2_both, told_from, upgraded_from, arith);
+      fresh = λ j u none. at2 (λ l. l ≡ None) w.lock i t new j u (λ here. ap raised_hold (s.fresh i t (granted_here w i t j u here none))) (λ _. s.fresh j u none);
+      unheard = s.unheard;
+      shown = search (at2, raised_from, arith);
       stands = λ j u r ready going. let old = s.stands j u r ready going in
           at2 (λ o. (h : Hold) × (o ≡ Some h) × (h.prepared ≡ true)) w.lock i t new j u
-          (λ here. upgraded_prepared (w.lock i t) old.0 ((λ k. w.lock (sym here.0 k) (sym here.1 k)) ∙ old.1) old.2)
+          (λ here. raised_prepared (w.lock i t) old.0 ((λ k. w.lock (sym here.0 k) (sym here.1 k)) ∙ old.1) old.2)
           (λ _. old);
       laid = s.laid;
       ended = s.ended;
     }
+
+-- ---- its transaction is told
+
+pub heard_sound : (w : World) → Sound w → (i t : ℕ) (e : Bool) → MayHear w i t e → Sound (heard w i t e)
+heard_sound w s i t e may = record {
+  alone = s.alone;
+  planned = s.planned;
+  aims = s.aims;
+  fresh = s.fresh;
+  unheard = search (at2, granted_here, arith);
+  shown = search (at2, some_told, arith);
+  stands = s.stands;
+  laid = s.laid;
+  ended = s.ended;
+}
 
 -- ---- Break and Crash
 

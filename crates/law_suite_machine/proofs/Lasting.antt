@@ -1,6 +1,6 @@
 -- What was so stays so under each event.
-use Rattle.law_suite_machine.proofs.Vocabulary.{◌≡◌, ℕ, Bool, true, List, [], ◌∷◌, ◌++◌, Option, Some, None, refl, sym, ap, ◌∙◌, append_assoc, Beginning, Known, Change, Read, Wrote, World, Verdict, Answered, Refused, Aborted, set1, Event, Held}
-use Rattle.law_suite_machine.proofs.Vocabulary.{Upgrade, Aim, Prepare, DecideRead, DecideRefused, DecideWrite, DecideElsewhere, Overrule, GiveUp, Finish, Lose, happens, run, decided, May, Obeys, MayWrite, Stays}
+use Rattle.law_suite_machine.proofs.Vocabulary.{◌≡◌, ℕ, Bool, true, List, [], ◌∷◌, ◌++◌, Option, Some, None, refl, sym, ap, ◌∙◌, append_assoc, Beginning, Known, Change, Read, Wrote, World, Verdict, Answered, Refused, Aborted, set1, Event, Grant, Hear}
+use Rattle.law_suite_machine.proofs.Vocabulary.{Raise, Aim, Prepare, DecideRead, DecideRefused, DecideWrite, DecideElsewhere, Overrule, GiveUp, Finish, Lose, happens, run, decided, May, Obeys, MayWrite, Stays}
 use Rattle.law_suite_machine.proofs.Places.{at1}
 use Rattle.law_suite_machine.proofs.Rows.{was_prefix, was_content}
 use Rattle.law_suite_machine.proofs.Invariant.{Inv}
@@ -32,8 +32,9 @@ quiet_stays : (start : Beginning) (w : World) (t : ℕ) (v : Verdict) → w.verd
 quiet_stays start w t v none = record { prefixes = λ p was. was; contents = λ d c was. was; verdicts = verdict_stays w.verdict t v none; given_up = λ u e. e; grows = ([], refl) }
 
 step_stays : (start : Beginning) (w : World) → Inv start w → (event : Event) → May start w event → Stays start w (happens start w event)
-step_stays start w inv (Held i t e) may = record { prefixes = λ p was. was; contents = λ d c was. was; verdicts = λ t v e. e; given_up = λ t e. e; grows = ([], refl) }
-step_stays start w inv (Upgrade i t) may = record { prefixes = λ p was. was; contents = λ d c was. was; verdicts = λ t v e. e; given_up = λ t e. e; grows = ([], refl) }
+step_stays start w inv (Grant i t e) may = record { prefixes = λ p was. was; contents = λ d c was. was; verdicts = λ t v e. e; given_up = λ t e. e; grows = ([], refl) }
+step_stays start w inv (Raise i t) may = record { prefixes = λ p was. was; contents = λ d c was. was; verdicts = λ t v e. e; given_up = λ t e. e; grows = ([], refl) }
+step_stays start w inv (Hear i t e) may = record { prefixes = λ p was. was; contents = λ d c was. was; verdicts = λ t v e. e; given_up = λ t e. e; grows = ([], refl) }
 step_stays start w inv (Aim t new) may = record { prefixes = λ p was. was; contents = λ d c was. was; verdicts = λ t v e. e; given_up = λ t e. e; grows = ([], refl) }
 step_stays start w inv (Prepare i t left) may = record { prefixes = λ p was. was; contents = λ d c was. was; verdicts = λ t v e. e; given_up = λ t e. e; grows = ([], refl) }
 step_stays start w inv (DecideRead t set known) may = read_stays start w t Answered known may.ready.undecided

@@ -54,7 +54,8 @@ prepared_sound w s i t left may =
       alone = alone_no_new w (prepared w i t left) s (no_new w i t left);
       planned = plan_locked w s i t left may;
       aims = plan_aims w s i t left may;
-      asked = search (at2, arith);
+      fresh = search (at2, arith);
+      unheard = s.unheard;
       shown = λ j u a h told lock. let old = no_new w i t left j u h lock in s.shown j u a old.0 told old.1;
       stands = λ j u o. at2_both (λ r l. r ≡ Some o → IsOpen w u → (h : Hold) × (l ≡ Some h) × (h.prepared ≡ true)) w.ready w.lock i t (Some left) new j u
           (λ _ _ _. (record { exclusive = may.lock.exclusive; prepared = true }, ap prepared_hold may.stands, refl))

@@ -9,7 +9,8 @@ pub record Sound (w : World) : Type 0 where
   pub alone : (i t u : ℕ) (a b : Hold) → w.lock i t ≡ Some a → w.lock i u ≡ Some b → a.exclusive ≡ true → t ≡ u
   pub planned : (i : ℕ) (p : Intention) → w.plan i ≡ Some p → w.lock i p.t ≡ Some (record { exclusive = true; prepared = true })
   pub aims : (i : ℕ) (p : Intention) → w.plan i ≡ Some p → (new : Change) × (w.aim p.t ≡ Some new) × IsTake (w.copy i) new p.copy
-  pub asked : (i t : ℕ) → w.told i t ≡ None → w.lock i t ≡ None
+  pub fresh : (i t : ℕ) → w.granted i t ≡ false → w.lock i t ≡ None
+  pub unheard : (i t : ℕ) → w.granted i t ≡ false → w.told i t ≡ None
   pub shown : (i t : ℕ) (a : Told) (h : Hold) → w.told i t ≡ Some a → w.lock i t ≡ Some h → w.copy i ≡ a.copy
   pub stands : (i t : ℕ) (o : Option Replica) → w.ready i t ≡ Some o → IsOpen w t → (h : Hold) × (w.lock i t ≡ Some h) × (h.prepared ≡ true)
   pub laid : (i t : ℕ) (x : Replica) → w.ready i t ≡ Some (Some x) → IsOpen w t → w.plan i ≡ Some (record { t = t; copy = x })

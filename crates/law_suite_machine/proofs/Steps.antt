@@ -1,11 +1,11 @@
 -- Every event keeps the invariant.
 use Rattle.law_suite_machine.proofs.Vocabulary.{◌≡◌, ℕ, Bool, true, false, ◌⊎◌, inl, inr, List, [], ◌∷◌, map, Some, None, refl, ap, subst, nat_eq, Replica, Beginning, Known, Change, Entry, Read, transaction, WasCopy, World, Told, arith, Intention}
-use Rattle.law_suite_machine.proofs.Vocabulary.{Verdict, Answered, Refused, Aborted, set1, is_answered, Event, Held, Upgrade, Aim, Prepare, DecideRead, DecideRefused, DecideWrite, DecideElsewhere, Overrule, GiveUp, Finish, Lose, happens, run, held}
-use Rattle.law_suite_machine.proofs.Vocabulary.{upgraded, decided, finished, May, Obeys, MayRead, MayWrite, MayFinish}
+use Rattle.law_suite_machine.proofs.Vocabulary.{Verdict, Answered, Refused, Aborted, set1, is_answered, Event, Grant, Raise, Hear, Aim, Prepare, DecideRead, DecideRefused, DecideWrite, DecideElsewhere, Overrule, GiveUp, Finish, Lose, happens, run, heard}
+use Rattle.law_suite_machine.proofs.Vocabulary.{decided, finished, May, Obeys, MayRead, MayWrite, MayFinish}
 use Rattle.std.proofs.lemmas.Map.Keys.{IsDistinct-cons}
 use Rattle.law_suite_machine.proofs.Places.{at2}
 use Rattle.law_suite_machine.proofs.Sound.{Sound, some_told}
-use Rattle.law_suite_machine.proofs.Holding.{held_sound, upgraded_sound, lost_sound, told_from}
+use Rattle.law_suite_machine.proofs.Holding.{granted_sound, raised_sound, heard_sound, lost_sound}
 use Rattle.law_suite_machine.proofs.Preparing.{prepared_sound, prepared_effect}
 use Rattle.law_suite_machine.proofs.Finishing.{finished_sound, finished_effect, finished_copy}
 use Rattle.law_suite_machine.proofs.Rows.{read_logged, write_logged, was_copy}
@@ -17,14 +17,9 @@ use Rattle.law_suite_machine.proofs.Reaching.{write_current}
 
 -- ---- locks
 
-held_told : (start : Beginning) (w : World) → Inv start w → (i t : ℕ) (e : Bool) (j u : ℕ) (a : Told) → (held w i t e).told j u ≡ Some a → WasCopy start w.log a.copy
-held_told start w inv i t e j u a = at2 (λ o. o ≡ Some a → WasCopy start w.log a.copy) w.told i t _ j u
+heard_told : (start : Beginning) (w : World) → Inv start w → (i t : ℕ) (e : Bool) (j u : ℕ) (a : Told) → (heard w i t e).told j u ≡ Some a → WasCopy start w.log a.copy
+heard_told start w inv i t e j u a = at2 (λ o. o ≡ Some a → WasCopy start w.log a.copy) w.told i t _ j u
     (λ _ is. subst (λ (a : Told). WasCopy start w.log a.copy) (some_told _ a is) (inv.stored i))
-    (λ _. inv.told j u a)
-
-upgraded_told : (start : Beginning) (w : World) → Inv start w → (i t : ℕ) (j u : ℕ) (a : Told) → (upgraded w i t).told j u ≡ Some a → WasCopy start w.log a.copy
-upgraded_told start w inv i t j u a = at2 (λ o. o ≡ Some a → WasCopy start w.log a.copy) w.told i t _ j u
-    (λ _ is. let b = told_from (w.told i t) a is in subst (WasCopy start w.log) b.2 (inv.told i t b.0 b.1))
     (λ _. inv.told j u a)
 
 -- ---- Finish
@@ -47,7 +42,7 @@ still_going w t v going gone = cc
 read_current : (start : Beginning) (copies : ℕ → Replica) (log : List Entry) (t : ℕ) (known : Known) → Current start copies log → Current start copies (Read t known ∷ log)
 read_current start copies log t known k = record { were = k.were; reach = k.reach; content = k.content }
 
--- a transaction that only read the suite intends nothing there
+-- a transaction that only read the suite, or has not asked for it, intends nothing there
 unaimed_unplanned : (w : World) → Sound w → (t : ℕ) (v : Verdict) → w.aim t ≡ None → (i : ℕ) (p : Intention) → w.plan i ≡ Some p → p.t ≡ t → is_answered (Some v) ≡ false
 unaimed_unplanned w s t v none i p plan same = let old = (s.aims i p plan).1 in let at = ap w.aim same in absurd cc
 
@@ -85,25 +80,18 @@ quiet_step : (start : Beginning) (w : World) → Inv start w → (t : ℕ) (v : 
     → ((i : ℕ) (p : Intention) → w.plan i ≡ Some p → p.t ≡ t → is_answered (Some v) ≡ false) → Inv start (decided w t v w.log)
 quiet_step start w inv t v undecided fit unplanned = search (decided_sound, same_current, decided_effect, recorded_on, arith)
 
--- a transaction that has not asked for the suite intends nothing there
-untold_unplanned : (w : World) → Sound w → (t : ℕ) (v : Verdict) → ((i : ℕ) → w.told i t ≡ None) → (i : ℕ) (p : Intention) → w.plan i ≡ Some p → p.t ≡ t → is_answered (Some v) ≡ false
-untold_unplanned w s t v untold i p plan same =
-    let lock = s.planned i p plan in
-    let none = s.asked i t (untold i) in
-    let at = ap (w.lock i) same in
-    absurd cc
-
 -- ---- every event
 
 pub step : (start : Beginning) (w : World) → Inv start w → (event : Event) → May start w event → Inv start (happens start w event)
-step start w inv (Held i t e) may = record { sound = held_sound w inv.sound i t e may; stored = inv.stored; told = held_told start w inv i t e; current = inv.current; logged = inv.logged; once = inv.once; recorded = inv.recorded }
-step start w inv (Upgrade i t) may = record { sound = upgraded_sound w inv.sound i t may; stored = inv.stored; told = upgraded_told start w inv i t; current = inv.current; logged = inv.logged; once = inv.once; recorded = inv.recorded }
+step start w inv (Grant i t e) may = record { sound = granted_sound w inv.sound i t e may; stored = inv.stored; told = inv.told; current = inv.current; logged = inv.logged; once = inv.once; recorded = inv.recorded }
+step start w inv (Raise i t) may = record { sound = raised_sound w inv.sound i t may; stored = inv.stored; told = inv.told; current = inv.current; logged = inv.logged; once = inv.once; recorded = inv.recorded }
+step start w inv (Hear i t e) may = record { sound = heard_sound w inv.sound i t e may; stored = inv.stored; told = heard_told start w inv i t e; current = inv.current; logged = inv.logged; once = inv.once; recorded = inv.recorded }
 step start w inv (Aim t new) may = record { sound = aimed_sound w inv.sound t new may; stored = inv.stored; told = inv.told; current = inv.current; logged = inv.logged; once = inv.once; recorded = inv.recorded }
 step start w inv (Prepare i t left) may = search (prepared_sound, same_current, prepared_effect, arith)
 step start w inv (DecideRead t set known) may = read_step start w inv t Answered (inl refl) set known may
 step start w inv (DecideRefused t set known) may = read_step start w inv t Refused (inr refl) set known may
 step start w inv (DecideWrite t set known new) may = write_step start w inv t set known new may
-step start w inv (DecideElsewhere t v) may = quiet_step start w inv t v may.undecided (still_going w t v may.going) (untold_unplanned w inv.sound t v may.untold)
+step start w inv (DecideElsewhere t v) may = quiet_step start w inv t v may.undecided (still_going w t v may.going) (unaimed_unplanned w inv.sound t v may.unaimed)
 step start w inv (Overrule t) may = quiet_step start w inv t Aborted may.undecided (λ _. refl) (λ _ _ _ _. refl)
 step start w inv (GiveUp t) may = search (given_up_sound, recorded_given_up, arith)
 step start w inv (Finish i t v) may = search (finished_sound, finished_stored, same_current, finished_effect, arith)

@@ -1,7 +1,7 @@
 -- A run that obeys. Transaction 5 makes the suite. In transaction 7 the votes move from server 0 to server 1 with a write; a lock of transaction 8 is lost in a crash, transaction 9 is overruled,
 -- and transaction 10 reads what was written. Server 0 keeps the older content.
 use Rattle.law_suite_machine.proofs.Vocabulary.{◌≡◌, ℕ, ◌+◌, ◌*◌, ◌<◌, ◌≤◌, Bool, IsTrue, true, false, ◌⊎◌, inl, inr, List, [], ◌∷◌, Option, Some, None, cond, refl, sym, ap, subst, arith, lit≤, lit<, ◌==◌, ◌++◌, Configuration, votes_at, IsValid}
-use Rattle.law_suite_machine.proofs.Vocabulary.{max_servers, Content, Prefix, Replica, Beginning, IsBeginning, Known, Change, World, Hold, Told, Answered, Aborted, begun, set2, Event, Held, Upgrade, Aim, Prepare, DecideRead, DecideWrite, Overrule}
+use Rattle.law_suite_machine.proofs.Vocabulary.{max_servers, Content, Prefix, Replica, Beginning, IsBeginning, Known, Change, World, Hold, Told, Answered, Aborted, begun, set2, Event, Grant, Raise, Hear, Aim, Prepare, DecideRead, DecideWrite, Overrule}
 use Rattle.law_suite_machine.proofs.Vocabulary.{GiveUp, Finish, Lose, run, happens, Obeys, IsReady, Knows, MayRead, MayWrite, MayLose, is_exclusive, holds_exclusively, SomeRunObeys}
 use Rattle.suite_content.specs.declared.content.Content.TheVariants.{Bytes}
 use Rattle.suite_prefix.specs.TwoLists.{closed_lists}
@@ -63,7 +63,7 @@ keep = set2 (λ _ _. true) 2 8 false
 -- ---- what happens
 
 abbrev makes : List Event
-makes = Held 0 5 true ∷ Aim 5 making ∷ Prepare 0 5 (Some made) ∷ []
+makes = Grant 0 5 true ∷ Hear 0 5 true ∷ Aim 5 making ∷ Prepare 0 5 (Some made) ∷ []
 
 abbrev w3 : World
 w3 = run start (begun start) makes
@@ -72,7 +72,7 @@ abbrev w5 : World
 w5 = run start w3 (DecideWrite 5 (just 0) known5 making ∷ Finish 0 5 Answered ∷ [])
 
 abbrev firsts : List Event
-firsts = Held 0 7 false ∷ Upgrade 0 7 ∷ Held 1 7 true ∷ Aim 7 new ∷ Prepare 0 7 (Some left0) ∷ Prepare 1 7 (Some left1) ∷ []
+firsts = Grant 0 7 false ∷ Hear 0 7 false ∷ Raise 0 7 ∷ Hear 0 7 true ∷ Grant 1 7 true ∷ Hear 1 7 true ∷ Aim 7 new ∷ Prepare 0 7 (Some left0) ∷ Prepare 1 7 (Some left1) ∷ []
 
 abbrev w6 : World
 w6 = run start w5 firsts
@@ -80,14 +80,14 @@ w6 = run start w5 firsts
 abbrev nexts_then : List Event → List Event
 nexts_then later =
     DecideWrite 7 (just 0) known7 new ∷ Finish 1 7 Answered
-    ∷ Held 2 8 true ∷ Lose keep ∷ GiveUp 8
-    ∷ Held 3 9 true ∷ Prepare 3 9 None ∷ Overrule 9 ∷ Finish 3 9 Aborted
+    ∷ Grant 2 8 true ∷ Hear 2 8 true ∷ Lose keep ∷ GiveUp 8
+    ∷ Grant 3 9 true ∷ Hear 3 9 true ∷ Prepare 3 9 None ∷ Overrule 9 ∷ Finish 3 9 Aborted
     ∷ Finish 0 7 Answered
-    ∷ Held 1 10 false ∷ Prepare 1 10 None ∷ later
+    ∷ Grant 1 10 false ∷ Hear 1 10 false ∷ Prepare 1 10 None ∷ later
 
 -- before and after transaction 10 is held and prepared
 abbrev w16 : World
-w16 = run start w6 (DecideWrite 7 (just 0) known7 new ∷ Finish 1 7 Answered ∷ Held 2 8 true ∷ Lose keep ∷ GiveUp 8 ∷ Held 3 9 true ∷ Prepare 3 9 None ∷ Overrule 9 ∷ Finish 3 9 Aborted ∷ Finish 0 7 Answered ∷ [])
+w16 = run start w6 (DecideWrite 7 (just 0) known7 new ∷ Finish 1 7 Answered ∷ Grant 2 8 true ∷ Hear 2 8 true ∷ Lose keep ∷ GiveUp 8 ∷ Grant 3 9 true ∷ Hear 3 9 true ∷ Prepare 3 9 None ∷ Overrule 9 ∷ Finish 3 9 Aborted ∷ Finish 0 7 Answered ∷ [])
 
 abbrev w18 : World
 w18 = run start w6 (nexts_then [])
@@ -241,7 +241,7 @@ obeys_firsts = search arith
 -- ---- the crash
 
 abbrev w9 : World
-w9 = run start w6 (DecideWrite 7 (just 0) known7 new ∷ Finish 1 7 Answered ∷ Held 2 8 true ∷ [])
+w9 = run start w6 (DecideWrite 7 (just 0) known7 new ∷ Finish 1 7 Answered ∷ Grant 2 8 true ∷ Hear 2 8 true ∷ [])
 
 -- the lock that it loses is not prepared
 crash : MayLose w9 keep
@@ -282,15 +282,16 @@ read10 = record {
 
 -- ---- the run
 
-obeys_nexts : Obeys start w6 (nexts_then (DecideRead 10 (just 1) known10 ∷ []))
+-- at the end a Poll of transaction 7 arrives late at server 4
+abbrev lasts : List Event
+lasts = nexts_then (DecideRead 10 (just 1) known10 ∷ Grant 4 7 true ∷ [])
+
+obeys_nexts : Obeys start w6 lasts
 obeys_nexts = search (write7, crash, free1, read10, arith)
 
 joined : (w : World) (first later : List Event) → Obeys start w first → Obeys start (run start w first) later → Obeys start w (first ++ later)
 joined w [] later may next = next
 joined w (event ∷ first) later may next = (may.0, joined (happens start w event) first later may.1 next)
-
-abbrev lasts : List Event
-lasts = nexts_then (DecideRead 10 (just 1) known10 ∷ [])
 
 abbrev events : List Event
 events = makes ++ (DecideWrite 5 (just 0) known5 making ∷ Finish 0 5 Answered ∷ (firsts ++ lasts))
@@ -309,5 +310,6 @@ some_run_obeys = record {
   lost = (2, 8, record { exclusive = true; copy = never }, refl, refl, refl);
   overruled = (9, refl);
   stale = (0, lit< tt, lit< tt);
+  unheard = (4, 7, record { exclusive = true; prepared = false }, refl, refl, refl);
   decided = refl;
 }

@@ -7,7 +7,7 @@ use Rattle.suite_prefix.specs.declared.copies.Prefix.{Prefix}
 use Rattle.suite_prefix.specs.declared.copies.Replica.{Replica}
 use Rattle.law_suite_machine.specs.Registers.{Beginning, Known, Change, empty_of, WasPrefix, GoesWith}
 use Rattle.law_suite_machine.specs.Machine.{Hold, Told, Verdict, Answered, Aborted, World, IsQuorum}
-use Rattle.law_suite_machine.specs.Events.{Event, Held, Upgrade, Aim, Prepare, DecideRead, DecideRefused, DecideWrite, DecideElsewhere, Overrule, GiveUp, Finish, Lose, happens}
+use Rattle.law_suite_machine.specs.Events.{Event, Grant, Raise, Hear, Aim, Prepare, DecideRead, DecideRefused, DecideWrite, DecideElsewhere, Overrule, GiveUp, Finish, Lose, happens}
 
 -- ---- locks
 
@@ -15,14 +15,20 @@ use Rattle.law_suite_machine.specs.Events.{Event, Held, Upgrade, Aim, Prepare, D
 abbrev pub IsFree : World → ℕ → ℕ → Bool → Type 0
 IsFree w i t exclusive = (u : ℕ) (other : Hold) → w.lock i u ≡ Some other → (exclusive ≡ true) ⊎ (other.exclusive ≡ true) → u ≡ t
 
-pub record MayHold (w : World) (i t : ℕ) (exclusive : Bool) : Type 0 where
-  pub untold : w.told i t ≡ None  -- no agent asks a server for a lock again, so that a lock that is gone never comes back
+pub record MayGrant (w : World) (i t : ℕ) (exclusive : Bool) : Type 0 where
+  pub ungranted : w.granted i t ≡ false  -- a server is asked for a lock once, so that a lock that is gone never comes back
   pub free : IsFree w i t exclusive  -- the server answers Busy beside such a lock
 
-pub record MayUpgrade (w : World) (i t : ℕ) : Type 0 where
+pub record MayRaise (w : World) (i t : ℕ) : Type 0 where
   pub lock : Hold
   pub stands : w.lock i t ≡ Some lock  -- the server answers Lost without the lock
   pub free : IsFree w i t true  -- and Busy beside another's
+
+-- at once or later: while the lock stands, so does the copy
+pub record MayHear (w : World) (i t : ℕ) (exclusive : Bool) : Type 0 where
+  pub lock : Hold
+  pub stands : w.lock i t ≡ Some lock  -- a transaction is told of no lock that it has not
+  pub mode : exclusive ≡ true → lock.exclusive ≡ true  -- nor of a stronger one
 
 pub record MayLose (w : World) (keep : ℕ → ℕ → Bool) : Type 0 where
   pub prepared_stay : (i t : ℕ) (lock : Hold) → w.lock i t ≡ Some lock → lock.prepared ≡ true → keep i t ≡ true  -- a crash spares prepared locks, and so does Break
@@ -121,6 +127,7 @@ pub record MayDecideElsewhere (w : World) (t : ℕ) : Type 0 where
   pub undecided : w.verdict t ≡ None  -- a verdict is recorded once
   pub going : w.gave_up t ≡ false  -- its own agent asks for it, and not once it gave up
   pub untold : (i : ℕ) → w.told i t ≡ None  -- an agent that was told of a suite decides with a quorum of it, or gives up
+  pub unaimed : w.aim t ≡ None  -- and it fixes nothing to write of a suite of which it knows nothing
 
 -- ---- other endings
 
@@ -137,8 +144,9 @@ pub record MayFinish (w : World) (t : ℕ) (verdict : Verdict) : Type 0 where
 -- ---- lists of events
 
 abbrev pub May : Beginning → World → Event → Type 0
-May start w (Held i t exclusive) = MayHold w i t exclusive
-May start w (Upgrade i t) = MayUpgrade w i t
+May start w (Grant i t exclusive) = MayGrant w i t exclusive
+May start w (Raise i t) = MayRaise w i t
+May start w (Hear i t exclusive) = MayHear w i t exclusive
 May start w (Aim t new) = MayAim w t
 May start w (Prepare i t left) = MayPrepare w i t left
 May start w (DecideRead t set known) = MayRead start w t set known

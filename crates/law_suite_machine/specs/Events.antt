@@ -2,11 +2,12 @@
 use Rattle.std.specs.Prelude.{ℕ, Bool, true, false, ◌==◌, if◌then◌else◌, List, [], ◌∷◌, Option, Some, None}
 use Rattle.suite_prefix.specs.declared.copies.Replica.{Replica}
 use Rattle.law_suite_machine.specs.Registers.{Beginning, Known, Change, changed, Entry, Read, Wrote, row}
-use Rattle.law_suite_machine.specs.Machine.{Hold, Told, Intention, Verdict, Answered, Refused, Aborted, World, set1, set2}
+use Rattle.law_suite_machine.specs.Machine.{Hold, Intention, Verdict, Answered, Refused, Aborted, World, set1, set2}
 
 pub data Event : Type 0 where
-  Held : (i t : ℕ) (exclusive : Bool) → Event  -- a lock is set, and Held answered
-  Upgrade : (i t : ℕ) → Event  -- a lock becomes exclusive, and Held answered
+  Grant : (i t : ℕ) (exclusive : Bool) → Event  -- a lock is set
+  Raise : (i t : ℕ) → Event  -- a lock becomes exclusive
+  Hear : (i t : ℕ) (exclusive : Bool) → Event  -- a transaction is told, with Held, of the lock that it has, and of the copy there
   Aim : (t : ℕ) (new : Change) → Event  -- a transaction fixes what it is to write
   Prepare : (i t : ℕ) (left : Option Replica) → Event  -- Prepare is answered Prepared, and an intention kept or none
   DecideRead : (t : ℕ) (set : ℕ → Bool) (known : Known) → Event  -- answered; it only read the suite
@@ -20,23 +21,18 @@ pub data Event : Type 0 where
 
 -- ---- what each event changes
 
-abbrev pub held : World → ℕ → ℕ → Bool → World
-held w i t exclusive = record w {
-  lock = set2 w.lock i t (Some (record { exclusive = exclusive; prepared = false }));
-  told = set2 w.told i t (Some (record { exclusive = exclusive; copy = w.copy i }));
-}
+abbrev pub granted : World → ℕ → ℕ → Bool → World
+granted w i t exclusive = record w { lock = set2 w.lock i t (Some (record { exclusive = exclusive; prepared = false })); granted = set2 w.granted i t true }
 
-abbrev pub upgraded_hold : Option Hold → Option Hold
-upgraded_hold None = None
-upgraded_hold (Some hold) = Some (record { exclusive = true; prepared = hold.prepared })
+abbrev pub raised_hold : Option Hold → Option Hold
+raised_hold None = None
+raised_hold (Some hold) = Some (record { exclusive = true; prepared = hold.prepared })
 
--- the copy that was told first stays
-abbrev pub upgraded_told : Option Told → Option Told
-upgraded_told None = None
-upgraded_told (Some told) = Some (record { exclusive = true; copy = told.copy })
+abbrev pub raised : World → ℕ → ℕ → World
+raised w i t = record w { lock = set2 w.lock i t (raised_hold (w.lock i t)) }
 
-abbrev pub upgraded : World → ℕ → ℕ → World
-upgraded w i t = record w { lock = set2 w.lock i t (upgraded_hold (w.lock i t)); told = set2 w.told i t (upgraded_told (w.told i t)) }
+abbrev pub heard : World → ℕ → ℕ → Bool → World
+heard w i t exclusive = record w { told = set2 w.told i t (Some (record { exclusive = exclusive; copy = w.copy i })) }
 
 abbrev pub aimed : World → ℕ → Change → World
 aimed w t new = record w { aim = set1 w.aim t (Some new) }
@@ -89,8 +85,9 @@ abbrev pub lost : World → (ℕ → ℕ → Bool) → World
 lost w keep = record w { lock = λ i t. kept (keep i t) (w.lock i t) }
 
 abbrev pub happens : Beginning → World → Event → World
-happens start w (Held i t exclusive) = held w i t exclusive
-happens start w (Upgrade i t) = upgraded w i t
+happens start w (Grant i t exclusive) = granted w i t exclusive
+happens start w (Raise i t) = raised w i t
+happens start w (Hear i t exclusive) = heard w i t exclusive
 happens start w (Aim t new) = aimed w t new
 happens start w (Prepare i t left) = prepared w i t left
 happens start w (DecideRead t set known) = decided w t Answered (Read t known ∷ w.log)

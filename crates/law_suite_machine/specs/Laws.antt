@@ -103,7 +103,7 @@ abbrev pub LocksAlwaysStand : Type 0
 LocksAlwaysStand = Always LocksStand
 
 -- the laws speak of something: a run that obeys, in which a suite that was never made is made, its votes change, a lock is lost in a crash, a transaction is
--- overruled, and a copy is stale
+-- overruled, a copy is stale, and a lock is left of which nobody was told, of a transaction that was answered before
 pub record SomeRunObeys : Type 0 where
   pub start : Beginning
   pub begins : IsBeginning start
@@ -115,4 +115,5 @@ pub record SomeRunObeys : Type 0 where
   pub lost : (i : ℕ) × (t : ℕ) × (told : Told) × ((after start events).told i t ≡ Some told) × ((after start events).lock i t ≡ None) × ((after start events).gave_up t ≡ true)
   pub overruled : (t : ℕ) × ((after start events).verdict t ≡ Some Aborted)
   pub stale : (i : ℕ) × (0 < ((after start events).copy i).dver) × (((after start events).copy i).dver < (row start (after start events).log).dver)
+  pub unheard : (i : ℕ) × (t : ℕ) × (lock : Hold) × ((after start events).told i t ≡ None) × ((after start events).lock i t ≡ Some lock) × ((after start events).verdict t ≡ Some Answered)
   pub decided : length (after start events).log ≡ 3

@@ -10,7 +10,7 @@ pub record Hold : Type 0 where
   pub exclusive : Bool
   pub prepared : Bool
 
--- what a transaction was told where it got its lock: the copy that was stored there then, and whether the lock is exclusive, from the first or since it was upgraded
+-- what a transaction was told of its lock: the copy that was stored there, and whether the lock is exclusive
 pub record Told : Type 0 where
   pub exclusive : Bool
   pub copy : Replica
@@ -30,6 +30,7 @@ pub record World : Type 0 where
   pub copy : ℕ → Replica  -- the copy that is stored at a server
   pub lock : ℕ → ℕ → Option Hold  -- the lock there of a transaction
   pub plan : ℕ → Option Intention  -- the intention there, of one transaction
+  pub granted : ℕ → ℕ → Bool  -- a lock was set there for a transaction, whether it was told so or not
   pub told : ℕ → ℕ → Option Told  -- what a transaction was told there with Held
   pub ready : ℕ → ℕ → Option (Option Replica)  -- it was told Prepared there, and this is what it leaves of the copy, if anything
   pub aim : ℕ → Option Change  -- what it is to write
@@ -77,6 +78,7 @@ begun start = record {
   copy = first_copy start;
   lock = λ _ _. None;
   plan = λ _. None;
+  granted = λ _ _. false;
   told = λ _ _. None;
   ready = λ _ _. None;
   aim = λ _. None;

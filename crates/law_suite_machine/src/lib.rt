@@ -6,12 +6,13 @@
 //! what there is: at each server a stored copy, locks, at most one intention; and of each transaction what it was
 //! told, prepared and recorded. The copy in effect at a server is the stored one, or the intention there once its
 //! transaction is recorded as answered. `Events` are what happens, and `Conditions` say when it may; `Laws` has the
-//! laws.
+//! laws, and `Licences` those of what comes late.
 //!
 //! **Promises**, of every list of events that keeps the conditions: `is_one_register`, `every_copy_was`,
 //! `replaced_is_superseded`, `quorums_show_the_row`, `decided_once`, `locks_hold_copies`, `locks_stand`,
-//! `what_was_stays`. In `some_run_obeys` all say something. Servers and agents are shown to keep the conditions
-//! (`law_server_moves`, `law_run_machine`), so nobody has to believe this crate for itself.
+//! `what_was_stays`; of what comes late `decisions_wait`, `licences_stay`. In `some_run_obeys` all say something.
+//! Servers and agents are shown to keep the conditions (`law_server_moves`, `law_run_machine`), so nobody has to
+//! believe this crate for itself.
 //!
 //! Four facts carry it.
 //! 1. Quorums meet in a vote: a read and a write quorum of the same votes, and two write quorums.
@@ -26,6 +27,7 @@
 #![tactic(auto)]
 
 ghost use Rattle.law_suite_machine.specs.Laws.{OneRegister, EveryCopyWas, AlwaysSuperseded, AlwaysCurrent, AlwaysOnce, LocksAlwaysHold, LocksAlwaysStand, WhatWasStays, SomeRunObeys};
+ghost use Rattle.law_suite_machine.specs.Licences.{DecisionsWait, LicencesStay};
 
 /// A law: the decided transactions are those of one plain register. What each knew is what the register held, and
 /// each write made its next row. It does nothing.
@@ -70,6 +72,18 @@ pub fn locks_stand()
 /// nothing.
 pub fn what_was_stays()
     ensures { WhatWasStays }
+{}
+
+/// A law: a verdict that may be recorded may be recorded later, whatever others do meanwhile, where nothing is recorded
+/// of its transaction and this does nothing of its own. It does nothing.
+pub fn decisions_wait()
+    ensures { DecisionsWait }
+{}
+
+/// A law: a Finish may come late, what a transaction fixed stays fixed, and of a lock it was told of one copy. It does
+/// nothing.
+pub fn licences_stay()
+    ensures { LicencesStay }
 {}
 
 /// A law: there is a run in which votes change, a lock is lost in a crash, a transaction is overruled and a copy is

@@ -42,20 +42,9 @@ pub(crate) fn printed<T: Display + Drop>(rt: &(impl Abort + AllocGlobal), value:
     had(rt, format!(in rt.alloc(); "{value}"))
 }
 
-/// Stops the test where a value is not the same as its clone, or is the same as another.
-pub(crate) fn is_cloned<T: Clone + PartialEq>(rt: &impl Abort, value: T, other: T, about: &str) {
-    holds(rt, had(rt, value.clone()) == value, about);
-    holds(rt, value != other, about);
-}
-
 /// What was made, where it was.
 pub(crate) fn had<T: Drop, E: Drop>(rt: &impl Abort, made: Result<T, E>) -> T {
     made.ok().expect(rt, "what a test wants")
-}
-
-/// Appends to a text.
-pub(crate) fn push(rt: &impl Abort, text: &mut String, piece: &str) {
-    had(rt, text.push_str(piece));
 }
 
 /// Appends to a list.
@@ -92,17 +81,6 @@ pub(crate) fn bytes(rt: &(impl Abort + AllocGlobal), hex: &str) -> Vec<u8> {
     let mut bytes = Vec::new(rt.alloc());
     for pair in hex.split_whitespace() {
         add(rt, &mut bytes, had(rt, u8::from_str_radix(pair, 16)));
-    }
-    bytes
-}
-
-/// The bytes of a text with another byte: the place and the byte, as `0 7`.
-pub(crate) fn damaged(rt: &(impl Abort + AllocGlobal), hex: &str, given: &str) -> Vec<u8> {
-    let (place, byte, _, _) = parts(given, ' ');
-    let (place, byte) = (number::<usize>(rt, place), number::<u8>(rt, byte));
-    let mut bytes = bytes(rt, hex);
-    if let Some(at) = bytes.get_mut(place) {
-        *at = byte;
     }
     bytes
 }

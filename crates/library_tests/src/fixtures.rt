@@ -1,12 +1,12 @@
-//! Lists, votes, prefixes, copies and settings that tests begin with: all of user 1000 and group 100.
+//! Lists, votes, prefixes and copies that tests begin with: all of user 1000 and group 100.
 
 use crate::checks::{add, had, number, parts};
 use acl_core::{Acl, Entry, Lists, Mode, Tag};
 use std::process::Abort;
 use suite_content::{Content, FileBytes, FolderNames, Name};
-use suite_prefix::{Prefix, PrefixKind, Replica, Settings, SharedPrefix};
+use suite_prefix::{Prefix, PrefixKind, Replica};
 use suite_script::read_votes;
-use vote_core::{MAX_SERVERS, ServerSet, Votes};
+use vote_core::{MAX_SERVERS, Votes};
 
 /// A mode of these octal digits.
 pub(crate) fn mode(rt: &impl Abort, digits: &str) -> Mode {
@@ -49,27 +49,6 @@ pub(crate) fn votes(rt: &impl Abort, text: &str) -> Votes {
     had(rt, read_votes(MAX_SERVERS, text.as_bytes()))
 }
 
-/// 255 votes at each of 32 servers.
-pub(crate) fn most_listed(rt: &(impl Abort + AllocGlobal)) -> Vec<(u8, u8)> {
-    let mut listed = Vec::new(rt.alloc());
-    for server in 0..32 {
-        add(rt, &mut listed, (server, 255));
-    }
-    listed
-}
-
-/// The set of these servers.
-pub(crate) fn set_of(rt: &impl Abort, text: &str) -> ServerSet {
-    let mut set = ServerSet::empty();
-    for word in text.split_whitespace() {
-        let server = number::<u8>(rt, word);
-        if usize::from(server) < MAX_SERVERS {
-            set.insert(server);
-        }
-    }
-    set
-}
-
 /// A prefix of this version and kind: the list of mode 644, and a vote each of servers 0 to 2.
 pub(crate) fn prefix(rt: &(impl Abort + AllocGlobal), pver: u64, kind: PrefixKind) -> Prefix {
     Prefix {
@@ -80,11 +59,6 @@ pub(crate) fn prefix(rt: &(impl Abort + AllocGlobal), pver: u64, kind: PrefixKin
         acl: lists(rt, "644"),
         votes: votes(rt, "1,1,1/2/2"),
     }
-}
-
-/// Such a prefix, to be shared.
-pub(crate) fn shared(rt: &(impl Abort + AllocGlobal), pver: u64, kind: PrefixKind) -> SharedPrefix {
-    had(rt, SharedPrefix::new(rt.alloc(), prefix(rt, pver, kind)))
 }
 
 /// A name.
@@ -107,12 +81,6 @@ pub(crate) fn file_bytes(rt: &(impl Abort + AllocGlobal), bytes: &[u8]) -> FileB
     had(rt, FileBytes::from_slice(rt.alloc(), bytes))
 }
 
-/// So many bytes, as a file holds them.
-pub(crate) fn long_bytes(rt: &(impl Abort + AllocGlobal), length: usize) -> FileBytes {
-    let bytes = had(rt, vec![in rt.alloc(); 7u8; length]);
-    had(rt, FileBytes::from_vec(bytes))
-}
-
 /// What a file holds.
 pub(crate) fn content(rt: &(impl Abort + AllocGlobal), bytes: &[u8]) -> Content {
     Content::Bytes(file_bytes(rt, bytes))
@@ -125,13 +93,4 @@ pub(crate) fn file(rt: &(impl Abort + AllocGlobal), pver: u64, dver: u64, bytes:
         dver,
         content: content(rt, bytes),
     }
-}
-
-/// Settings of so many servers, with two agents and no caches. The root has the list of a mode, and a vote
-/// each of servers 0 to 2.
-pub(crate) fn settings(rt: &(impl Abort + AllocGlobal), servers: usize, digits: &str) -> Settings {
-    let votes = votes(rt, "1,1,1/2/2");
-    let (acl, none) = (lists(rt, digits), ServerSet::empty());
-    let made = Settings::new(servers, 2, votes, 1000, 100, acl, 0, 0, 0, none);
-    had(rt, made)
 }

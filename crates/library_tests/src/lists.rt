@@ -1,25 +1,15 @@
-//! Worked examples as lines of text, what Linux answered, and clones.
+//! What Linux answered of lists, as lines of text.
 
-use crate::checks::{had, holds, is_cloned, number, parts, shows};
-use crate::fixtures::{entries, mode};
-use crate::operations::caller;
-use acl_core::{Acl, Check, Lists, Perms};
+use crate::checks::{had, holds, number, parts};
+use crate::fixtures::entries;
+use acl_core::{Acl, Caller, Check, Perms};
 use std::process::Abort;
+use suite_script::read_caller;
 
 /// The list of a text.
 fn list(rt: &(impl Abort + AllocGlobal), text: &str) -> Acl {
     had(rt, Acl::from_entries(rt.alloc(), &entries(rt, text)))
 }
-
-/// Lists, callers with their groups, what is wanted as an octal digit, and what decides.
-static DECIDED: &str = "
-u:0 g:0 o:7 | 1000 300 | 4 | Denied(UserObj)
-u:0 g:0 o:7 | 2000 300 | 4 | Granted
-u:7 g:4 g200:2 m:7 o:7 | 2000 100,200 | 6 | Denied(GroupObj)
-u:7 g:4 g200:2 m:7 o:7 | 2000 100,200 | 2 | Granted
-o:0 m:4 g:4 u1001:6 u:6 | 1001 300 | 2 | Denied(Mask)
-o:0 m:4 g:4 u1001:6 u:6 | 1001 100 | 4 | Granted
-o:0 m:4 g:4 u1001:6 u:6 | 1001 100 | 1 | Denied(User(1001))";
 
 /// What Linux answered for files of user 1000 and group 100 (`access(2)` as a caller, with the list as the
 /// file's `system.posix_acl_access`): lists, callers with their groups, what is wanted, and the answer.
@@ -44,45 +34,23 @@ u:0 u1001:0 g:7 g200:7 m:7 o:7 | 1001 100,200 | 4 | no
 u:0 u1001:0 g:7 g200:7 m:7 o:7 | 1000 100 | 4 | no
 u:0 u1001:0 g:7 g200:7 m:7 o:7 | 2000 200 | 7 | yes";
 
+/// A user, and its groups with commas between them.
+fn caller(rt: &impl Abort, text: &str) -> Caller {
+    let (user, groups) = text.split_once(' ').expect(rt, "a caller");
+    had(rt, read_caller(number(rt, user), groups.as_bytes()))
+}
+
 /// A list answers a caller so about a file of user 1000 and group 100.
 fn answers(rt: &(impl Abort + AllocGlobal), line: &str) {
     let (entries, who, wanted, want) = parts(line, '|');
     let wanted = Perms::from_digit(number::<u8>(rt, wanted) % 8);
     let check = list(rt, entries).check(1000, 100, &caller(rt, who), wanted);
-    match want {
-        "yes" => holds(rt, check == Check::Granted, line),
-        "no" => holds(rt, check != Check::Granted, line),
-        _ => shows(rt, check, want, line),
-    }
+    holds(rt, (check == Check::Granted) == (want == "yes"), line);
 }
 
 #[test]
 fn one_entry_or_the_mask_decides_as_on_linux(rt: HostRuntime) {
-    for line in DECIDED.lines().skip(1) {
-        answers(&rt, line);
-    }
     for line in KERNEL.lines().skip(1) {
         answers(&rt, line);
     }
-}
-
-#[test]
-fn a_mode_has_three_entries(rt: HostRuntime) {
-    let acl = had(&rt, Acl::from_mode(rt.alloc(), mode(&rt, "751")));
-    let same = acl.entries() == list(&rt, "u:7 g:5 o:1").entries();
-    holds(&rt, same, "mode 751");
-    is_cloned(&rt, acl, list(&rt, "u:7 g:5 o:2"), "mode 751");
-}
-
-/// Both lists of a folder.
-fn both(rt: &(impl Abort + AllocGlobal)) -> Lists {
-    let mut lists = Lists::from(list(rt, "u:7 g:5 o:1"));
-    lists.default = Some(list(rt, "u:7 u1001:6 g:5 m:7 o:4"));
-    lists
-}
-
-#[test]
-fn a_folder_has_two_lists(rt: HostRuntime) {
-    let access = list(&rt, "u:7 g:5 o:1");
-    is_cloned(&rt, both(&rt), Lists::from(access), "both lists");
 }

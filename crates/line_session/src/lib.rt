@@ -6,16 +6,18 @@
 //! the exit status and the desk are those after them (`IsAnswered`). A line that is too long, one for which memory ran
 //! out and one that could not be kept are told, and the session goes on (`Came`).
 //!
-//! A session over the lines that another one kept restores its desk: `journal_restores` says so of every front of what
-//! was kept, and `done_is_run` of a session that ended with status 0. `Replay` hears no byte behind so many. The lines
-//! that are heard are those of a text that is read whole (`lines_are_cut`).
+//! Carrying out the whole lines of a journal restores the desk (`carry_out_again`): `journal_restores` says so of every
+//! front of what was kept, `crash_restores` of what a crash leaves of the file, and `crash_keeps_all` that a crash
+//! leaves all lines before the one that is appended. The lines that are heard are those of a text that is read whole
+//! (`lines_are_cut`).
 //!
 //! **The caller owes** nothing.
 //!
 //! **Files**: `talk` (a conversation), `desk` (what lines are carried out on), `line_kind`, `memory` (of tests),
-//! `system`, `journal` (a file), `replay` (a journal heard again), `session_error`, `begun_line` (within the limit),
-//! `course`, `answering` (one line), `sessions`, `laws`.
-//! **Definitions** (`specs/`): `Turns`, `Lines`, `Answers`, `InTime`, `Begun`, `Steps`, `Memory`, `Restored`.
+//! `system`, `turn_log` (its turns, for proofs), `journal` (in a file), `replay` (a journal carried out again),
+//! `session_error`, `begun_line` (within the limit), `course`, `answering` (one line), `sessions`, `laws`.
+//! **Definitions** (`specs/`): `Turns`, `Lines`, `Answers`, `InTime`, `Begun`, `Steps`, `Memory`, `Restored`, `Journals`,
+//! `Replayed`, `Crashed`.
 #![tactic(auto)]
 
 mod answering;
@@ -31,14 +33,15 @@ mod session_error;
 mod sessions;
 mod system;
 mod talk;
+mod turn_log;
 
 pub use begun_line::MAX_LINE;
 pub use desk::Desk;
 pub use journal::Journal;
-pub use laws::{done_is_run, journal_restores, lines_are_cut};
+pub use laws::{crash_keeps_all, crash_restores, done_is_run, journal_restores, lines_are_cut};
 pub use line_kind::LineKind;
 pub use memory::{MemoryTalk, MemoryTurn};
-pub use replay::Replay;
+pub use replay::{ReplayError, carry_out_again};
 pub use session_error::SessionError;
 pub use sessions::session;
 pub use system::SystemTalk;

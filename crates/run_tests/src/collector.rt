@@ -1,6 +1,6 @@
-//! Short talks of a collector with servers, and each law called once. What comes next is told in words:
-//! what a server is asked; the prefix, its content's version and the members of a Current, with the first source
-//! that its last quorum before a widening gave; or the votes of a Short, with the first Busy.
+//! Short talks of a collector with servers, as another program tells them. What comes next is told in words: what a
+//! server is asked; the prefix, its content's version and the members of a Current, with the first source that its
+//! last quorum before a widening gave; or the votes of a Short, with the first Busy.
 
 mod talks;
 
@@ -8,34 +8,19 @@ use crate::fixtures::{self, had, lists, number, same};
 use rep_core::{Reply, Request};
 use std::alloc::AllocError;
 use std::process::Abort;
-use suite_collect::{
-    Collect, Hearing, Next, ReadPoint, Told, asks_are_few, current_has_a_source,
-    current_is_a_quorum, nobody_is_asked_twice, prefix_and_version_stay, short_has_none_left,
-    widened_is_a_write_quorum,
-};
+use suite_collect::{Collect, Hearing, Next, ReadPoint, Told};
 use suite_prefix::{LockMode, Prefix, PrefixKind, SharedPrefix};
 use talks::TALKS;
 use vote_core::{MAX_SERVERS, Votes};
-
-static HERE: [(u8, u8); 3] = [(0, 1), (1, 1), (2, 1)];
-
-static THERE: [(u8, u8); 3] = [(3, 1), (4, 1), (5, 1)];
-
-static UNEVEN: [(u8, u8); 3] = [(0, 0), (1, 2), (2, 1)];
 
 static PAIR: [(u8, u8); 2] = [(0, 1), (1, 1)];
 
 static SHIFTED: [(u8, u8); 2] = [(1, 1), (2, 2)];
 
-/// Votes by a word: `here` are one each at servers 0, 1 and 2, two to read and two to write; `there` the same at servers
-/// 3, 4 and 5; `uneven` none at server 0, two at server 1, one at server 2, one to read and three to write; `pair` one
-/// each at servers 0 and 1, one to read and two to write; `shifted` one at server 1 and two at server 2, two to read and
-/// two to write.
+/// Votes by a word: `pair` are one each at servers 0 and 1, one to read and two to write; `shifted` one at server 1 and
+/// two at server 2, two to read and two to write.
 fn votes(rt: &impl Abort, place: &str) -> Votes {
     match place {
-        "here" => fixtures::votes(rt, 6, &HERE, 2, 2),
-        "there" => fixtures::votes(rt, 6, &THERE, 2, 2),
-        "uneven" => fixtures::votes(rt, 6, &UNEVEN, 1, 3),
         "pair" => fixtures::votes(rt, 6, &PAIR, 1, 2),
         _ => fixtures::votes(rt, 6, &SHIFTED, 2, 2),
     }
@@ -63,11 +48,15 @@ struct Talk {
     is_widened: bool,
 }
 
-/// A talk with a collector of suite 9 for transaction 7, from version 0 with these votes.
-fn talk_on(rt: &(impl Abort + AllocGlobal), mode: LockMode, place: &str) -> Talk {
+/// A collector of suite 9 for transaction 7, from version 0 with the votes of the pair.
+fn collector(rt: &(impl Abort + AllocGlobal)) -> Collect {
+    Collect::new(7, 9, LockMode::Shared, prefix(rt, 0, "pair"))
+}
+
+fn talk(rt: &(impl Abort + AllocGlobal)) -> Talk {
     Talk {
-        collect: Collect::new(7, 9, mode, prefix(rt, 0, place)),
-        alone: Collect::new(7, 9, mode, prefix(rt, 0, place)),
+        collect: collector(rt),
+        alone: collector(rt),
         source: None,
         is_widened: false,
     }
@@ -194,72 +183,6 @@ fn comes(rt: &(impl Abort + AllocGlobal), talk: &Talk, want: &str, about: &str) 
     same(rt, &words(rt, &talk.alone, talk.source), want, about);
 }
 
-/// A talk, line by line: what is done, and what comes next.
-fn play(rt: &(impl Abort + AllocGlobal), mode: LockMode, text: &str) {
-    let mut talk = talk_on(rt, mode, "here");
-    for line in text.lines().skip(1) {
-        goes(rt, &mut talk, line);
-    }
-}
-
-fn goes(rt: &(impl Abort + AllocGlobal), talk: &mut Talk, line: &str) {
-    let (what, want) = line.split_once(" -> ").expect(rt, "a line");
-    act(rt, talk, what);
-    comes(rt, talk, want, line);
-}
-
-// ---- talks
-
-/// The second member shows that the votes were moved away. Older prefixes change nothing.
-static MOVED: &str = "
-held 1 here 1 -> Shared at 1
-held 3 there 2 -> Shared at 3
-held 2 here 1 -> Shared at 4
-held 3 there 2 -> prefix 3 content 2 of [3, 4] from Some(4)";
-
-/// A member without a vote is not asked; a read wants one vote, a write three.
-static WEAK: &str = "
-held 1 uneven 1 -> Shared at 1
-held 1 uneven 1 -> prefix 1 content 1 of [1] from Some(1)
-raise -> Upgrade { t: 7, suite: 9 } at 1";
-
-/// A member that was busy is not asked again once the lock is raised.
-static RAISED: &str = "
-busy 5 -> Shared at 1
-held 1 here 1 -> Shared at 2
-held 1 here 1 -> prefix 1 content 1 of [1, 2] from Some(1)
-raise -> Upgrade { t: 7, suite: 9 } at 1
-held 1 here 1 -> Upgrade { t: 7, suite: 9 } at 2
-busy 6 -> 1 of 2 busy Some((0, 5))";
-
-/// Votes that share no server with those before, and then votes that are held.
-static WIDENED: &str = "
-held 1 here 1 -> Exclusive at 1
-held 1 here 2 -> prefix 1 content 2 of [0, 1] from Some(1)
-widen there -> Exclusive at 3
-held 9 here 9 -> Exclusive at 4
-held 0 there 0 -> prefix 1 content 2 of [3, 4] from Some(1)
-widen here -> prefix 1 content 2 of [0, 1] from Some(1)";
-
-#[test]
-fn a_quorum_is_had_under_the_newest_prefix(rt: HostRuntime) {
-    current_is_a_quorum();
-    current_has_a_source();
-    short_has_none_left();
-    play(&rt, LockMode::Shared, MOVED);
-}
-
-#[test]
-fn locks_are_raised_and_widened(rt: HostRuntime) {
-    widened_is_a_write_quorum();
-    prefix_and_version_stay();
-    nobody_is_asked_twice();
-    asks_are_few();
-    play(&rt, LockMode::Shared, WEAK);
-    play(&rt, LockMode::Shared, RAISED);
-    play(&rt, LockMode::Exclusive, WIDENED);
-}
-
 /// An act of the table of talks.
 fn act_of(letter: u8) -> &'static str {
     match letter {
@@ -275,7 +198,7 @@ fn act_of(letter: u8) -> &'static str {
 /// Plays a row of the table of talks.
 fn play_row(rt: &(impl Abort + AllocGlobal), row: &str) {
     let (acts, want) = row.split_once(' ').expect(rt, "a row");
-    let mut talk = talk_on(rt, LockMode::Shared, "pair");
+    let mut talk = talk(rt);
     for letter in acts.as_bytes() {
         act(rt, &mut talk, act_of(*letter));
     }

@@ -4,49 +4,26 @@ use crate::asking::{Ask, Question, ask_once, started, take};
 use crate::crew::{Crew, jobs, opened, others, work};
 use crate::fixtures::{had, push, same, settings};
 use agent_pool::{JobOutcome, Player, Pool, PoolFault, ended};
-use file_ops::{Answer, Answers};
 use server_lock::{OpenGate, Pass, Servers};
-use std::alloc::AllocError;
 use std::process::Abort;
 use std::sync::Wait;
 use std::thread::Threads;
-use suite_content::NameList;
 use suite_prefix::Settings;
-use txn_core::Ending;
-
-fn list_words(rt: &(impl Abort + AllocGlobal), names: &NameList) -> Result<String, AllocError> {
-    let count = names.len();
-    format!(in rt.alloc(); "list of {count}")
-}
-
-fn answers_words(rt: &(impl Abort + AllocGlobal), answers: &Answers) -> Result<String, AllocError> {
-    match answers.as_slice().first() {
-        Some(Answer::Made(number)) => format!(in rt.alloc(); "made {number}"),
-        Some(Answer::Wrote) => String::from_str(rt.alloc(), "wrote"),
-        Some(Answer::List(names)) => list_words(rt, names),
-        other => format!(in rt.alloc(); "{other:?}"),
-    }
-}
-
-fn ending_words(rt: &(impl Abort + AllocGlobal), ending: &Ending) -> Result<String, AllocError> {
-    match ending {
-        Ending::Answered(answers) => answers_words(rt, answers),
-        other => format!(in rt.alloc(); "{other:?}"),
-    }
-}
 
 /// A job's number, its steps, and how it ended.
 fn outcome_words(rt: &(impl Abort + AllocGlobal), pool: &Pool, outcome: &JobOutcome) -> String {
     let told = ended(&pool.agents, outcome).expect(rt, "an end");
-    let words = had(rt, ending_words(rt, &told.ending));
     let (job, steps) = (outcome.job, told.steps);
-    had(rt, format!(in rt.alloc(); "{job} {steps} {words}"))
+    had(
+        rt,
+        format!(in rt.alloc(); "{job} {steps} {:?}", told.ending),
+    )
 }
 
-/// Compares how the jobs ended, in their order.
-pub(crate) fn ended_so(rt: &(impl Abort + AllocGlobal), pool: &Pool, want: &[&str]) {
-    assert!(rt; pool.outcomes.len() == want.len());
-    for (outcome, want) in pool.outcomes.iter().zip(want) {
+/// Compares how the jobs ended, in their order: a line of a text each, but for the first.
+pub(crate) fn ended_so(rt: &(impl Abort + AllocGlobal), pool: &Pool, text: &str) {
+    assert!(rt; pool.outcomes.len() == text.lines().skip(1).count());
+    for (outcome, want) in pool.outcomes.iter().zip(text.lines().skip(1)) {
         same(rt, &outcome_words(rt, pool, outcome), want, want);
     }
 }

@@ -10,54 +10,43 @@ use std::sync::Wait;
 use std::thread::Threads;
 use suite_prefix::Settings;
 
-/// Jobs with the number of the first, and how each is to end.
+/// Jobs with the number of the first, and how each is to end, a line each but for the first line.
 struct Round {
     first: u64,
     jobs: &'static str,
-    ends: &'static [&'static str],
+    ends: &'static str,
 }
-
-const FILES: &str = "file /f0,file /f1,file /f2,file /f3,file /f4,file /f5,file /f6,file /f7";
-
-const MADE: [&str; 8] = [
-    "0 10 made 1",
-    "1 10 made 513",
-    "2 10 made 1025",
-    "3 10 made 1537",
-    "4 10 made 2049",
-    "5 10 made 2561",
-    "6 10 made 3073",
-    "7 10 made 3585",
-];
-
-const USES: &str =
-    "write /f0 hi,write /f1 hi,write /f2 hi,write /f3 hi,write /f4 hi,write /f5 hi,write /f6 hi,write /f7 hi,list /,list /,list /,list /";
-
-const USED: [&str; 12] = [
-    "8 10 wrote",
-    "9 10 wrote",
-    "10 10 wrote",
-    "11 10 wrote",
-    "12 10 wrote",
-    "13 10 wrote",
-    "14 10 wrote",
-    "15 10 wrote",
-    "16 8 list of 8",
-    "17 8 list of 8",
-    "18 8 list of 8",
-    "19 8 list of 8",
-];
 
 static MAKING: Round = Round {
     first: 0,
-    jobs: FILES,
-    ends: &MADE,
+    jobs: "file /f0,file /f1,file /f2,file /f3,file /f4,file /f5,file /f6,file /f7",
+    ends: "
+0 10 Answered(Answers { replies: [Made(1)] })
+1 10 Answered(Answers { replies: [Made(513)] })
+2 10 Answered(Answers { replies: [Made(1025)] })
+3 10 Answered(Answers { replies: [Made(1537)] })
+4 10 Answered(Answers { replies: [Made(2049)] })
+5 10 Answered(Answers { replies: [Made(2561)] })
+6 10 Answered(Answers { replies: [Made(3073)] })
+7 10 Answered(Answers { replies: [Made(3585)] })",
 };
 
 static USING: Round = Round {
     first: 8,
-    jobs: USES,
-    ends: &USED,
+    jobs: "write /f0 hi,write /f1 hi,write /f2 hi,write /f3 hi,write /f4 hi,write /f5 hi,write /f6 hi,write /f7 hi,list /,list /,list /,list /",
+    ends: "
+8 10 Answered(Answers { replies: [Wrote] })
+9 10 Answered(Answers { replies: [Wrote] })
+10 10 Answered(Answers { replies: [Wrote] })
+11 10 Answered(Answers { replies: [Wrote] })
+12 10 Answered(Answers { replies: [Wrote] })
+13 10 Answered(Answers { replies: [Wrote] })
+14 10 Answered(Answers { replies: [Wrote] })
+15 10 Answered(Answers { replies: [Wrote] })
+16 8 Answered(Answers { replies: [List(NameList { folder: [(f0, 1), (f1, 513), (f2, 1025), (f3, 1537), (f4, 2049), (f5, 2561), (f6, 3073), (f7, 3585)] })] })
+17 8 Answered(Answers { replies: [List(NameList { folder: [(f0, 1), (f1, 513), (f2, 1025), (f3, 1537), (f4, 2049), (f5, 2561), (f6, 3073), (f7, 3585)] })] })
+18 8 Answered(Answers { replies: [List(NameList { folder: [(f0, 1), (f1, 513), (f2, 1025), (f3, 1537), (f4, 2049), (f5, 2561), (f6, 3073), (f7, 3585)] })] })
+19 8 Answered(Answers { replies: [List(NameList { folder: [(f0, 1), (f1, 513), (f2, 1025), (f3, 1537), (f4, 2049), (f5, 2561), (f6, 3073), (f7, 3585)] })] })",
 };
 
 /// Has jobs carried out, and compares how they ended.

@@ -69,30 +69,13 @@ pub(crate) fn votes(rt: &impl Abort, servers: usize, reps: &[(u8, u8)], r: u16, 
     Votes::new(servers, reps, r, w).ok().expect(rt, "votes")
 }
 
-/// One vote each at three servers, two of them a quorum.
-pub(crate) fn three_votes(rt: &impl Abort) -> Votes {
-    votes(rt, 3, &[(0, 1), (1, 1), (2, 1)], 2, 2)
-}
-
-/// Three servers with these votes, of which some open with their root in form 1, and so many agents, with so much room
-/// and so many places for caches.
-pub(crate) fn settings_of(
-    rt: &(impl Abort + AllocGlobal),
-    votes: Votes,
-    agents: usize,
-    caches: (usize, usize),
-    old: ServerSet,
-) -> Settings {
-    let (room, slots) = caches;
-    let root = lists(rt, 0o777);
-    Settings::new(3, agents, votes, 1000, 100, root, room, room, slots, old)
-        .ok()
-        .expect(rt, "settings")
-}
-
 /// Three servers with a vote each, two of them a quorum; so many agents, without room for caches.
 pub(crate) fn settings(rt: &(impl Abort + AllocGlobal), agents: usize) -> Settings {
-    settings_of(rt, three_votes(rt), agents, (0, 0), ServerSet::empty())
+    let votes = votes(rt, 3, &[(0, 1), (1, 1), (2, 1)], 2, 2);
+    let (root, none) = (lists(rt, 0o777), ServerSet::empty());
+    Settings::new(3, agents, votes, 1000, 100, root, 0, 0, 0, none)
+        .ok()
+        .expect(rt, "settings")
 }
 
 // ---- worlds

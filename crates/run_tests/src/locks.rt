@@ -4,83 +4,38 @@
 
 use crate::asking::{Ask, Question, asked, close, started, take};
 use crate::fixtures::{push, same, settings};
-use rep_core::{LockList, Reply, Stamped};
+use rep_core::{Reply, Stamped};
 use server_lock::{Gate, History, OpenGate, Pass, ServerAnswer, Servers};
 use std::alloc::AllocError;
 use std::process::Abort;
 use std::sync::Wait;
 use std::sync::atomic::{AtomicU64, Ordering};
 use std::thread::{Threads, map_vec};
-use suite_prefix::{Prefix, PrefixKind, Settings};
 
-/// The prefix of the root as the service opens.
-fn root(rt: &(impl Abort + AllocGlobal), settings: &Settings) -> Prefix {
-    Prefix {
-        pver: 1,
-        kind: PrefixKind::Folder,
-        owner: 1000,
-        group: 100,
-        acl: again!(rt, settings.root_acl().clone()),
-        votes: *settings.c0(),
-    }
-}
-
-/// A prefix is the root's.
-fn is_root(rt: &(impl Abort + AllocGlobal), settings: &Settings, prefix: &Prefix) {
-    let root = root(rt, settings);
-    assert!(rt; *prefix == root);
-}
-
-fn locked_words(rt: &impl AllocGlobal, stamp: u64, locks: &LockList) -> Result<String, AllocError> {
-    let count = locks.as_slice().len();
-    format!(in rt.alloc(); "{stamp}: Locked {count}")
-}
-
-/// A reply, in words; the prefix of a lock that is held has to be the root's.
-fn reply_words(
-    rt: &(impl Abort + AllocGlobal),
-    settings: &Settings,
-    reply: &Stamped<Reply>,
-) -> Result<String, AllocError> {
+/// A reply, in words; of a lock that is held the content's version.
+fn reply_words(rt: &impl AllocGlobal, reply: &Stamped<Reply>) -> Result<String, AllocError> {
     let stamp = reply.stamp;
     match &reply.value {
-        Reply::Held { prefix, dver } => {
-            is_root(rt, settings, prefix);
-            format!(in rt.alloc(); "{stamp}: Held the root {dver}")
-        }
-        Reply::Locked(locks) => locked_words(rt, stamp, locks),
-        Reply::Busy { holder, prepared } => {
-            format!(in rt.alloc(); "{stamp}: Busy {holder} {prepared}")
-        }
+        Reply::Held { dver, .. } => format!(in rt.alloc(); "{stamp}: Held {dver}"),
         other => format!(in rt.alloc(); "{stamp}: {other:?}"),
     }
 }
 
 /// What is answered, in words.
-fn answer_words(
-    rt: &(impl Abort + AllocGlobal),
-    servers: &Servers,
-    answer: &ServerAnswer,
-) -> Result<String, AllocError> {
+fn answer_words(rt: &impl AllocGlobal, answer: &ServerAnswer) -> Result<String, AllocError> {
     match answer.reply() {
-        Ok(reply) => reply_words(rt, servers.settings(), reply),
+        Ok(reply) => reply_words(rt, reply),
         Err(miss) => format!(in rt.alloc(); "{miss:?}"),
     }
 }
 
-fn words(rt: &(impl Abort + AllocGlobal), servers: &Servers, answer: &ServerAnswer) -> String {
-    again!(rt, answer_words(rt, servers, answer))
+fn words(rt: &(impl Abort + AllocGlobal), answer: &ServerAnswer) -> String {
+    again!(rt, answer_words(rt, answer))
 }
 
 /// What is answered is this, of the server that was asked.
-fn answered(
-    rt: &(impl Abort + AllocGlobal),
-    servers: &Servers,
-    answer: &ServerAnswer,
-    server: u8,
-    want: &str,
-) {
-    same(rt, &words(rt, servers, answer), want, want);
+fn answered(rt: &(impl Abort + AllocGlobal), answer: &ServerAnswer, server: u8, want: &str) {
+    same(rt, &words(rt, answer), want, want);
     assert!(rt; answer.server() == server);
 }
 
@@ -93,7 +48,7 @@ fn told<R: Abort + AllocGlobal + Wait>(
     want: &str,
 ) -> Pass {
     let told = asked(rt, &OpenGate, servers, pass, question);
-    answered(rt, servers, &told.1, question.server, want);
+    answered(rt, &told.1, question.server, want);
     told.0
 }
 
@@ -117,9 +72,14 @@ fn expect_at<R: Abort + AllocGlobal + Wait>(
 struct Step(Option<u8>, u8, Ask, &'static str);
 
 const RUN: [Step; 7] = [
-    Step(Some(0), 0, Ask::Shared(0), "1: Held the root 1"),
-    Step(Some(0), 1, Ask::Locks, "2: Locked 0"),
-    Step(Some(1), 0, Ask::Exclusive(1), "2: Busy 0 false"),
+    Step(Some(0), 0, Ask::Shared(0), "1: Held 1"),
+    Step(Some(0), 1, Ask::Locks, "2: Locked(LockList { locks: [] })"),
+    Step(
+        Some(1),
+        0,
+        Ask::Exclusive(1),
+        "2: Busy { holder: 0, prepared: false }",
+    ),
     Step(None, 0, Ask::Crash, "3: Done"),
     Step(Some(1), 0, Ask::Locks, "4: Down"),
     Step(

@@ -95,12 +95,15 @@ fn meet<R: Abort + AllocGlobal + Threads + Wait + Sync>(
     run.expect(rt, "a run")
 }
 
+static ENDS: &str = "
+0 8 Answered(Answers { replies: [List(NameList { folder: [] })] })
+1 1 Swept { broken: 0, finished: 0, left: 0 }";
+
 #[test]
 fn a_list_overlaps_a_sweep(rt: HostRuntime) {
     let settings = settings(&rt, 2);
     let (servers, pool) = meet(&rt, &settings);
-    let swept = "1 1 Swept { broken: 0, finished: 0, left: 0 }";
-    ended_so(&rt, &pool, &["0 8 list of 0", swept]);
+    ended_so(&rt, &pool, ENDS);
     comes_to(&rt, &settings, &closed(&rt, servers, pool), 9, 1);
 }
 

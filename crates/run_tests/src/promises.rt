@@ -1,7 +1,10 @@
 //! Who opens a world and plays events on it is promised what holds of every run, and what is available from each of its
-//! moments on: callers of `law_headline::promise` and `law_run_recovers::promise`, and what came of their events.
+//! moments on: callers of `law_headline::promise` and `law_run_recovers::promise`, which are proved against their
+//! contracts, and what came of the events of one; and a caller of laws of servers.
 
-ghost use Rattle.std.specs.Prelude.{◌≡◌, List, ◌++◌, Some, true, ◌||◌};
+ghost use Rattle.std.specs.Prelude.{◌≡◌, ℕ, List, [], ◌∷◌, ◌++◌, Some, true, ◌||◌};
+ghost use Rattle.rep_core.specs.Laws.{reached};
+ghost use Rattle.rep_core.specs.ValidCopies.{HasValidCopies};
 ghost use Rattle.law_headline.specs.Promises.{IsRunOf, Promises};
 ghost use Rattle.run_core.specs.Opened.{Opened};
 ghost use Rattle.run_core.specs.declared.done.EndedJob.{EndedJob as AnEnd};
@@ -17,13 +20,14 @@ ghost use Rattle.law_run_recovers.specs.Meets.{OneThatMeetsIsDecidedAt};
 ghost use Rattle.law_run_recovers.specs.MeetsWorked.{SomeRunsMeet};
 ghost use Rattle.law_run_recovers.specs.Promises.{Lends};
 
-use crate::events::{event, events};
-use crate::fixtures::{ended_by, had, same, settings, step};
+use crate::events::events;
+use crate::fixtures::{ended_by, same, settings};
 use law_headline::{all_votes_are_valid, opens_a_run, plays_on, promise};
 use law_run_recovers::{
     one_that_meets_is_decided, side_by_side_are_decided, some_runs_go_side_by_side, some_runs_meet,
 };
-use run_core::{EndedJob, Event, World};
+use rep_core::{Request, Stamped, copies_are_valid, settings_fit};
+use run_core::{Event, World};
 use std::alloc::Global;
 use std::process::Abort;
 use suite_prefix::Settings;
@@ -61,7 +65,7 @@ fn a_world_promises(rt: HostRuntime) {
 
 /// A world for users who want different things: from each of its moments on transactions that begin side by side are
 /// decided when they end, and end in time.
-fn shared_by_users(alloc: Global, settings: &Settings, events: &[Event]) -> Option<World>
+pub fn shared_by_users(alloc: Global, settings: &Settings, events: &[Event]) -> Option<World>
     ensures decided { (world : Opened) → result ≡ Some world → (before later : List AnEvent) → IsRunOf world (before ++ later)
         → SideBySideAreDecidedAt world.given before }
     ensures in_time { (world : Opened) → result ≡ Some world → (before later : List AnEvent) → IsRunOf world (before ++ later)
@@ -71,7 +75,7 @@ fn shared_by_users(alloc: Global, settings: &Settings, events: &[Event]) -> Opti
 }
 
 /// A world for users who want the same thing: from each of its moments on, of two that alone meet one is decided.
-fn fought_over_by_users(alloc: Global, settings: &Settings, events: &[Event]) -> Option<World>
+pub fn fought_over_by_users(alloc: Global, settings: &Settings, events: &[Event]) -> Option<World>
     ensures { (world : Opened) → result ≡ Some world → (before later : List AnEvent) → IsRunOf world (before ++ later)
         → OneThatMeetsIsDecidedAt world.given before }
 {
@@ -80,7 +84,7 @@ fn fought_over_by_users(alloc: Global, settings: &Settings, events: &[Event]) ->
 
 /// What is lent, of a run: in one in which two users each write a file of their own, step by step in turn, each that ends
 /// is decided as the table answers it. That they go side by side is all that is shown of the run.
-fn users_of_a_run_are_decided()
+pub fn users_of_a_run_are_decided()
     ensures { (one : Begun with_caches two_made two_write) (job : AnEnd)
         → EndsThen with_caches (two_made ++ one.before) one.after one.agent one.t one.caller one.site one.ops job
         → job.ending ≡ ending_of (answer_on (table_of with_caches (two_made ++ one.before)) one.t one.caller one.ops) }
@@ -90,7 +94,7 @@ fn users_of_a_run_are_decided()
 }
 
 /// And in one in which they write the same file one of both is decided: that they so meet is all that is shown of it.
-fn one_user_of_a_run_is_decided()
+pub fn one_user_of_a_run_is_decided()
     ensures { (run : SomeRunsMeet) × ((job outcome : AnEnd)
         → EndsThen with_caches (two_made ++ run.one.before) run.one.after run.one.agent run.one.t run.one.caller run.one.site run.one.ops job
         → EndsThen with_caches (two_made ++ run.other.before) run.other.after run.other.agent run.other.t run.other.caller run.other.site run.other.ops outcome
@@ -100,71 +104,13 @@ fn one_user_of_a_run_is_decided()
     one_that_meets_is_decided();
 }
 
-/// 1 where a job ended as a write is to end, else 0.
-fn wrote(rt: &(impl Abort + AllocGlobal), outcome: &Option<EndedJob>) -> usize {
-    let Some(outcome) = outcome else {
-        return 0;
-    };
-    let words = had(rt, format!(in rt.alloc(); "{:?}", outcome.ending));
-    usize::from(words.as_str() == "Answered(Answers { replies: [Wrote] })")
-}
-
-/// A step of an agent: 1 where its job ended as a write is to end, else 0.
-fn turn(rt: &(impl Abort + AllocGlobal), world: &mut World, agent: u8) -> usize {
-    wrote(rt, &step(rt, world, &Event::Step { agent }).outcome)
-}
-
-/// Makes two files, each of the owner, by agent 0.
-fn make_files(rt: &(impl Abort + AllocGlobal), world: &mut World) {
-    for _ in 0..40 {
-        turn(rt, world, 0);
-    }
-}
-
-/// How many jobs end as writes are to end, of two that begin at once and take steps in turn.
-fn written(rt: &(impl Abort + AllocGlobal), world: &mut World, first: &str, second: &str) -> usize {
-    step(rt, world, &event(rt, first));
-    step(rt, world, &event(rt, second));
-    let mut count = 0usize;
-    for _ in 0..40 {
-        count = count.saturating_add(turn(rt, world, 0));
-        count = count.saturating_add(turn(rt, world, 1));
-    }
-    count
-}
-
-/// The settings of two users, and the events in which the first begins to make two files.
-fn two_users(rt: &(impl Abort + AllocGlobal)) -> (Settings, Vec<Event>) {
-    (
-        settings(rt, 2),
-        events(rt, "begin 0 file /a; file /b,step 0"),
-    )
-}
-
-#[test]
-fn two_users_write_side_by_side(rt: HostRuntime) {
-    let (settings, made) = two_users(&rt);
-    let mut world = shared_by_users(rt.alloc(), &settings, &made).expect(&rt, "memory");
-    make_files(&rt, &mut world);
-    let count = written(
-        &rt,
-        &mut world,
-        "begin 0 write /a hi",
-        "begin 1 write /b ho",
-    );
-    assert!(rt; count == 2);
-}
-
-#[test]
-fn one_of_two_who_write_a_file_is_done(rt: HostRuntime) {
-    let (settings, made) = two_users(&rt);
-    let mut world = fought_over_by_users(rt.alloc(), &settings, &made).expect(&rt, "memory");
-    make_files(&rt, &mut world);
-    let count = written(
-        &rt,
-        &mut world,
-        "begin 0 write /a hi",
-        "begin 1 write /a ho",
-    );
-    assert!(rt; count == 1);
+/// Who has settings and requests meets what the law of valid copies asks: every server that was opened with these
+/// settings and asked these two requests has valid copies. It does nothing.
+pub fn asked_twice(settings: &Settings, first: &Stamped<Request>, second: &Stamped<Request>)
+    ensures { (index : ℕ) → HasValidCopies (reached index settings.now (first.now ∷ second.now ∷ [])).store }
+{
+    settings_fit(settings);
+    first.value.takes_fit();
+    second.value.takes_fit();
+    copies_are_valid();
 }

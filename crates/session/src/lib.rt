@@ -13,9 +13,11 @@
 //! by name (3), as is one that another session has open (6).
 //!
 //! **Promises.** What is told and kept is that of `line_session` and of the desk that is used, and the exit status is
-//! that of the worst line, or that a stream failed (`speak`). Nothing is known to contracts of what a file holds.
+//! that of the worst line, or that a stream failed (`speak`). A journal is taken only where the file begins as one and is
+//! locked; it then holds its whole lines, all of them on the disk, and the desk is what they make of it (`IsOpened`).
 //!
 //! **Files**: `words`, `extent` (what a file has of whole lines), `opened` (the journal, restored), `refusal`.
+//! **Definitions** (`specs/`): `Words`, `Extents`, `Opened`, `Held`.
 #![tactic(auto)]
 
 mod extent;
@@ -23,15 +25,17 @@ mod opened;
 mod refusal;
 mod words;
 
-ghost use Rattle.std.specs.Prelude.{◌≡◌, ◌⊎◌};
-ghost use Rattle.byte_streams.specs.Endings.{no_stream};
+ghost use Rattle.std.specs.Prelude.{◌≡◌, ◌⊎◌, IfOk};
+ghost use Rattle.byte_streams.specs.Endings.{done, no_stream};
 ghost use Rattle.line_session.specs.Answers.{manner_of};
 ghost use Rattle.line_session.specs.InTime.{AnswersAll, Speaks};
+ghost use Rattle.session.specs.Held.{Begins, Holds, HoldsAlone, IsFault, restored_text};
 
 use byte_streams::{ByteIn, ByteOut, COMMAND_LINE, DONE, NO_STREAM, finish, lack_memory};
-use line_session::{Desk, SystemTalk, Talk, session};
+use journal_file::{Disk, OneFile, SystemDisk};
+use line_session::{Desk, Journal, SystemTalk, Talk, session};
 use opened::open_journal;
-use refusal::tell_refusal;
+use refusal::{Refusal, tell_refusal};
 use script_text::push_number;
 use std::alloc::{AllocError, Global};
 use std::fs::File;
@@ -48,34 +52,96 @@ pub fn obey<R: Files<File = File>, I: ByteIn + Drop, O: ByteOut + Drop>(
     mut writer: O,
 ) -> u8 {
     match read_words(words) {
-        Some(wish) => hold(rt, alloc, wish, reader, writer),
+        Some(wish) => {
+            let mut desk = first_desk(alloc);
+            let name = wish
+                .name
+                .and_then(|at| words.get(at).copied())
+                .unwrap_or("");
+            let streams = Streams { reader, writer };
+            begin(
+                alloc,
+                &mut desk,
+                &SystemDisk::new(rt),
+                Asked { name, wish },
+                streams,
+            )
+        }
         None => finish(&mut writer, b"fault command line\n", COMMAND_LINE),
     }
 }
 
-/// Restores the journal, where there is one, holds the session, and says the exit status.
-fn hold<R: Files<File = File>, I: ByteIn + Drop, O: ByteOut + Drop>(
-    rt: &R,
-    alloc: Global,
-    wish: Wish<'_>,
+/// What is asked for, and the name of the journal, if it is to have one.
+#[derive(Clone, Copy)]
+struct Asked<'a> {
+    name: &'a str,
+    wish: Wish,
+}
+
+/// Where lines come from, and where answers go.
+#[derive(Drop)]
+struct Streams<I: ByteIn + Drop, O: ByteOut + Drop> {
     reader: I,
-    mut writer: O,
-) -> u8 {
-    let mut desk = first_desk(alloc);
-    let Some(given) = wish.journal else {
-        let mut talk = SystemTalk::new(reader, writer, None);
-        return speak(alloc, &mut desk, &mut talk, wish.marks);
-    };
-    match open_journal(rt, alloc, given, &mut desk) {
-        Ok(opened) => match tell_restored(alloc, &mut writer, opened.lines) {
-            DONE => {
-                let mut talk = SystemTalk::new(reader, writer, Some(opened.journal));
-                speak(alloc, &mut desk, &mut talk, wish.marks)
-            }
-            status => status,
-        },
-        Err(refusal) => tell_refusal(alloc, &mut writer, given.name, &refusal),
+    writer: O,
+}
+
+/// Holds a session, with the journal where one is named, and says the exit status.
+fn begin<D: Desk, F: OneFile + Drop, P: Disk<F>, I: ByteIn + Drop, O: ByteOut + Drop>(
+    alloc: Global,
+    desk: &mut D,
+    disk: &P,
+    asked: Asked<'_>,
+    streams: Streams<I, O>,
+) -> u8
+    ensures { Begins D.kind D.text D.next D.Leaves asked.entry.wish asked.entry.name.now (P.found disk.now) result desk.old desk.new }
+{
+    if asked.wish.name.is_none() {
+        return hold_alone::<D, F, I, O>(alloc, desk, asked.wish.marks, streams);
     }
+    match disk.open(asked.name) {
+        Ok(file) => hold(alloc, desk, file, asked, streams),
+        Err(_) => {
+            let mut writer = streams.writer;
+            tell_refusal(alloc, &mut writer, asked.name, &Refusal::Failed)
+        }
+    }
+}
+
+/// Holds a session without a journal, and says the exit status.
+fn hold_alone<D: Desk, F: OneFile + Drop, I: ByteIn + Drop, O: ByteOut + Drop>(
+    alloc: Global,
+    desk: &mut D,
+    marks: bool,
+    streams: Streams<I, O>,
+) -> u8
+    ensures { HoldsAlone D.kind D.text D.next D.Leaves marks result desk.old desk.new }
+{
+    let mut talk = SystemTalk::<I, O, F>::new(streams.reader, streams.writer, None);
+    speak(alloc, desk, &mut talk, marks)
+}
+
+/// Restores the journal, holds the session, and says the exit status.
+fn hold<D: Desk, F: OneFile + Drop, I: ByteIn + Drop, O: ByteOut + Drop>(
+    alloc: Global,
+    desk: &mut D,
+    mut file: F,
+    asked: Asked<'_>,
+    streams: Streams<I, O>,
+) -> u8
+    ensures { Holds D.kind D.text D.next D.Leaves asked.entry.wish.marks result desk.old (F.view file) desk.new }
+{
+    let mut writer = streams.writer;
+    let opened = match open_journal(alloc, &mut file, desk) {
+        Ok(opened) => opened,
+        Err(refusal) => return tell_refusal(alloc, &mut writer, asked.name, &refusal),
+    };
+    let told = tell_restored(alloc, &mut writer, opened.lines);
+    if told != DONE {
+        return told;
+    }
+    let journal = Journal::new(alloc, file, opened.size, asked.wish.is_synced);
+    let mut talk = SystemTalk::new(streams.reader, writer, Some(journal));
+    speak(alloc, desk, &mut talk, asked.wish.marks)
 }
 
 /// Holds the session, and says the exit status: that of the worst line, or that a stream failed.
@@ -88,14 +154,19 @@ fn speak<D: Desk, T: Talk>(alloc: Global, desk: &mut D, talk: &mut T, marks: boo
 }
 
 /// Tells how many lines were restored.
-fn tell_restored<O: ByteOut>(alloc: Global, writer: &mut O, lines: u64) -> u8 {
+fn tell_restored<O: ByteOut>(alloc: Global, writer: &mut O, lines: u64) -> u8
+    ensures { (result ≡ done) ⊎ IsFault result }
+{
     match restored_line(alloc, lines) {
         Ok(line) => finish(writer, &line, DONE),
         Err(AllocError) => lack_memory(writer),
     }
 }
 
-fn restored_line(alloc: Global, lines: u64) -> Result<Vec<u8>, AllocError> {
+/// The line that tells it.
+fn restored_line(alloc: Global, lines: u64) -> Result<Vec<u8>, AllocError>
+    ensures { IfOk result (λ line. line.items ≡ restored_text lines) }
+{
     let mut line = Vec::from_slice(alloc, b"= restored ")?;
     push_number(&mut line, lines)?;
     line.extend_from_slice(b" lines\n")?;

@@ -1,8 +1,11 @@
 //! Why a journal is refused, and how that is told.
 
-use byte_streams::{ByteOut, FAULTY, NO_STREAM, finish_line, lack_memory};
+ghost use Rattle.session.specs.Held.{IsFault};
+
+use byte_streams::{ByteOut, FAULTY, NO_STREAM, ReadFailed, finish_line, lack_memory};
+use journal_file::FileFailed;
+use line_session::ReplayError;
 use std::alloc::{AllocError, Global};
-use std::io;
 
 /// Why a journal is refused.
 #[derive(Drop)]
@@ -19,15 +22,25 @@ pub(crate) enum Refusal {
     Memory,
 }
 
-impl From<io::Error> for Refusal {
-    fn from(_error: io::Error) -> Refusal {
+impl From<FileFailed> for Refusal {
+    fn from(_error: FileFailed) -> Refusal {
         Refusal::Failed
     }
 }
 
-impl From<AllocError> for Refusal {
-    fn from(_error: AllocError) -> Refusal {
-        Refusal::Memory
+impl From<ReadFailed> for Refusal {
+    fn from(_error: ReadFailed) -> Refusal {
+        Refusal::Failed
+    }
+}
+
+impl From<ReplayError> for Refusal {
+    fn from(error: ReplayError) -> Refusal {
+        match error {
+            ReplayError::Unread => Refusal::Failed,
+            ReplayError::Memory => Refusal::Memory,
+            ReplayError::Faulty(told) => Refusal::Faulty(told),
+        }
     }
 }
 
@@ -37,12 +50,18 @@ pub(crate) fn tell_refusal<O: ByteOut>(
     writer: &mut O,
     name: &str,
     refusal: &Refusal,
-) -> u8 {
+) -> u8
+    ensures { IsFault result }
+{
     match refusal {
         Refusal::Failed => finish_line(writer, told(alloc, name, b"failed\n"), NO_STREAM),
         Refusal::InUse => finish_line(writer, told(alloc, name, b"in use\n"), NO_STREAM),
         Refusal::NoJournal => finish_line(writer, told(alloc, name, b"no journal\n"), FAULTY),
-        Refusal::Faulty(fault) => finish_line(writer, told(alloc, name, fault), FAULTY),
+        Refusal::Faulty(fault) => finish_line(
+            writer,
+            told(alloc, name, without_word(fault)),
+            FAULTY,
+        ),
         Refusal::Memory => lack_memory(writer),
     }
 }
@@ -54,4 +73,9 @@ fn told(alloc: Global, name: &str, why: &[u8]) -> Result<Vec<u8>, AllocError> {
     line.extend_from_slice(b": ")?;
     line.extend_from_slice(why)?;
     Ok(line)
+}
+
+/// How a faulty line is told of a journal: without the word that a session puts first.
+fn without_word(fault: &[u8]) -> &[u8] {
+    fault.strip_prefix(b"fault ").unwrap_or(b"no journal\n")
 }
