@@ -154,7 +154,7 @@ def plays_rows(copy: Copy) -> None:
             continue
         words = [word.decode() for word in row["words"]]
         told = copy.answer(*words, env={"PATH": copy.bare})
-        wanted = row["output"].decode() + (tools if words == ["--help"] else "")
+        wanted = (tools if words == ["--help"] else "") + row["output"].decode()
         if needs_program(words):
             copy.holds(told[:2] == (1, "") and told.err.endswith(NO_PYTHON), f"{words} needs no program: {told}")
         else:

@@ -2,11 +2,15 @@
 import difflib
 import functools
 import re
+import shutil
+import sys
 import textwrap
 import typing
 
 # So much of a word is told, and how wide a text is.
-LONG, WIDE = 60, 100
+LONG = 60
+# As wide as a terminal that is narrower, and in a pipe always the same.
+WIDE = min(100, shutil.get_terminal_size((100, 24)).columns) if sys.stdout and sys.stdout.isatty() else 100
 # A text in lines, in which no word is cut.
 filled = functools.partial(textwrap.fill, width=WIDE, break_long_words=False, break_on_hyphens=False)
 

@@ -110,9 +110,9 @@ def advice(status: int, given: argparse.Namespace, last: str) -> str:
 class Looked(threading.Thread):
     """Hears from the program how many worlds it has looked at. What else it says on standard error is passed on."""
 
-    def __init__(self, said: typing.IO[bytes]) -> None:
+    def __init__(self, said: typing.IO[bytes], most: int = 0) -> None:
         super().__init__(daemon=True)
-        self.said = said
+        self.said, self.most = said, most
         # When it told of them first and last, and how many these were.
         self.first: tuple[float, int] | None = None
         self.last: tuple[float, int] | None = None
@@ -135,11 +135,12 @@ class Looked(threading.Thread):
             return ""
         (begun, before), (now, worlds) = self.first, self.last
         rate = (worlds - before) / (now - begun)
-        return f": {worlds:,} worlds, {float(f'{rate:.3g}'):,.0f} a second"
+        left = f", {max(0, self.most - worlds) / rate:,.0f} s left at most" if self.most else ""
+        return f": {worlds:,} worlds, {float(f'{rate:.3g}'):,.0f} a second{left}"
 
 
-def watched(process: subprocess.Popen[bytes]) -> None:
-    progress, looked = console.Progress(), Looked(process.stderr)
+def watched(process: subprocess.Popen[bytes], most: int) -> None:
+    progress, looked = console.Progress(), Looked(process.stderr, most)
     try:
         while process.poll() is None:
             with contextlib.suppress(subprocess.TimeoutExpired):
@@ -150,6 +151,12 @@ def watched(process: subprocess.Popen[bytes]) -> None:
         progress.end()
 
 
+def most_of(options: list[str]) -> int:
+    """How many worlds are looked at, at most; 0, where that is not told."""
+    told = [word for before, word in zip(options, options[1:]) if before == "--worlds"]
+    return int(told[0]) if told and told[0].isdigit() else 0
+
+
 def status_of(options: list[str], printed: typing.IO[bytes], script: typing.IO[bytes] | None = None) -> int:
     """Runs the program on a script, or on standard input, and prints into a file. On a terminal it is watched."""
     is_watched = sys.stderr.isatty()
@@ -158,7 +165,7 @@ def status_of(options: list[str], printed: typing.IO[bytes], script: typing.IO[b
     process = subprocess.Popen(words, stdin=script, stdout=printed, stderr=errors, preexec_fn=memory.limit)
     try:
         if is_watched:
-            watched(process)
+            watched(process, most_of(options))
         return process.wait()
     finally:
         if process.poll() is None:

@@ -29,8 +29,9 @@ def seats() -> int:
 
 
 def step(teller: console.Teller, done: int, count: int, last: str, stays: bool) -> None:
-    name = f"; the last was {last}" if last else ""
-    teller.say(f"{done} of {count} crates proved, {teller.seconds()} s{name}", stays and not teller.changes)
+    name, taken = f"; the last was {last}" if last else "", teller.seconds()
+    left = f", some {taken * (count - done) // done // 60 + 1} min left" if teller.changes and 0 < done < count else ""
+    teller.say(f"{done} of {count} crates proved, {taken} s{left}{name}", stays and not teller.changes)
 
 
 def prove(top: str, needs: dict[str, list[str]], teller: console.Teller) -> tuple[str, str] | None:

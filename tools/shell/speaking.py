@@ -23,6 +23,11 @@ HISTORY = os.path.join(os.environ.get("XDG_STATE_HOME", os.path.expanduser("~/.l
 RED, PLAIN = "\033[31m", "\033[0m"
 
 
+def is_coloured() -> bool:
+    """Whether a terminal is told in colour, where nobody wished it otherwise (no-color.org)."""
+    return sys.stdout.isatty() and not os.environ.get("NO_COLOR")
+
+
 class Bad(Exception):
     """What was typed cannot be done, in a sentence."""
 
@@ -54,7 +59,7 @@ class Shell(cmd.Cmd):
     # talking
 
     def say(self, text: str, is_wrong: bool = False) -> None:
-        print(f"{RED}{text}{PLAIN}" if is_wrong and sys.stdout.isatty() else text, flush=True)
+        print(f"{RED}{text}{PLAIN}" if is_wrong and is_coloured() else text, flush=True)
 
     def note(self, line: str) -> None:
         """Learns a name that a line gives, and the paths that it has."""
