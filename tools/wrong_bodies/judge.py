@@ -70,7 +70,7 @@ def of_check(seen: kit.Seen, crate: str, changed: typing.Container[str]) -> Verd
     if STALE.search(seen.text):
         return Verdict(UNSURE, said="the kept work of a library could not be used")
     if seen.status == 0:
-        return Verdict(PROVED)
+        return Verdict(PROVED, said="all that was checked is proved with it")
     if seen.status == 1:
         unread = next((it for it in lines if is_unread(it, changed)), "")
         only = ONLY.fullmatch(lines[-1])

@@ -143,6 +143,7 @@ class Tries:
                     self.in_room(room, by_crate)
                 except KeyboardInterrupt:
                     # (the checks of other threads end with this program)
+                    console.Teller().say("stopped")
                     shutil.rmtree(room, ignore_errors=True)
                     os._exit(console.STOPPED)
         return self.verdicts
@@ -150,17 +151,18 @@ class Tries:
     def in_room(self, room: str, by_crate: dict[str, list[standing.Edit]]) -> None:
         copy = kit.Copy(room)
         tree = decides.Tree(kit.name(), room)
-        with concurrent.futures.ThreadPoolExecutor(self.lanes) as pool:
-            with concurrent.futures.ThreadPoolExecutor(self.lanes) as crates:
-                runs = []
-                for name, edits in by_crate.items():
-                    same = [edit for edit in edits if tree.of_edit(name, edit.text) == edit.sum]
-                    for edit in edits:
-                        if edit not in same:
-                            self.tell(edit, Verdict(UNSURE, said="what decides it changed meanwhile"))
-                    runs.append(crates.submit(self.crate, copy, pool, name, same))
-                for run in runs:
-                    run.result()
+        pool, crates = (concurrent.futures.ThreadPoolExecutor(self.lanes) for _ in range(2))
+        runs = []
+        for name, edits in by_crate.items():
+            same = [edit for edit in edits if tree.of_edit(name, edit.text) == edit.sum]
+            for edit in edits:
+                if edit not in same:
+                    self.tell(edit, Verdict(UNSURE, said="what decides it changed meanwhile"))
+            if same:
+                runs.append(crates.submit(self.crate, copy, pool, name, same))
+        # (not in a `with`, which would wait for all checks where the tool is stopped)
+        for run in runs:
+            run.result()
 
     def crate(
         self, copy: kit.Copy, pool: concurrent.futures.Executor, name: str, edits: list[standing.Edit]
