@@ -53,7 +53,7 @@ fn collector(rt: &(impl Abort + AllocGlobal)) -> Collect {
     Collect::new(7, 9, LockMode::Shared, prefix(rt, 0, "pair"))
 }
 
-fn talk(rt: &(impl Abort + AllocGlobal)) -> Talk {
+fn begun(rt: &(impl Abort + AllocGlobal)) -> Talk {
     Talk {
         collect: collector(rt),
         alone: collector(rt),
@@ -198,7 +198,7 @@ fn act_of(letter: u8) -> &'static str {
 /// Plays a row of the table of talks.
 fn play_row(rt: &(impl Abort + AllocGlobal), row: &str) {
     let (acts, want) = row.split_once(' ').expect(rt, "a row");
-    let mut talk = talk(rt);
+    let mut talk = begun(rt);
     for letter in acts.as_bytes() {
         act(rt, &mut talk, act_of(*letter));
     }
