@@ -19,8 +19,9 @@ from page_records import Record, bare, bars, cards, late
 from played import Tally
 from scripting import script_of
 
+from common import text_of
 from compare import scenario
-from show import show
+from show import lecture, show
 from trace import json_events
 
 # All moments of a page: what is said and why; and of some of them what the page shows, with the votes on its cards, and
@@ -193,7 +194,7 @@ def scripts(count: int, lines: int) -> typing.Iterator[tuple[str, str]]:
 
 
 def pages_tell(tally: Tally) -> bool:
-    given, text_of = tally.given, show.text_of
+    given, whole = tally.given, show.text_of
     with browser.opened(tally) as driver, tempfile.TemporaryDirectory() as folder:
         if not driver:
             return False
@@ -202,14 +203,29 @@ def pages_tell(tally: Tally) -> bool:
                 tally.holds(holds, name, about)
         some = [script for _, script in scripts(given.planted, given.lines)]
         for old, new in PLANTED:
-            files = [name for name in show.FILES.values() if old in text_of(show.PARTS, name)]
+            files = [name for name in show.FILES.values() if old in whole(show.PARTS, name)]
             tally.same(len(files), 1, "files to plant into", old)
-            show.text_of = lambda *path, old=old, new=new: text_of(*path).replace(old, new)
+            show.text_of = lambda *path, old=old, new=new: whole(*path).replace(old, new)
             found = any(not holds for script in some for holds, _ in wrong_of(driver, folder, script))
             tally.holds(found, "planted, and not found", old)
-        show.text_of = text_of
+        show.text_of = whole
     return False
 
 
+def lectures(tally: Tally) -> None:
+    """The folder of a lecture: a page for each of six stories, as `show` has it, and one that leads to them."""
+    with tempfile.TemporaryDirectory() as folder:
+        lecture.write(folder)
+        index, told = text_of(folder, "index.html"), lecture.stories()
+        tally.same((len(told), sum(minutes for minutes, *_ in told)), (6, 45), "stories, and minutes")
+        for _, path, about, _ in told:
+            name, script = os.path.basename(path).removesuffix(".script"), text_of(*path.split("/")).encode()
+            page = show.page_of(script, show.shown_of(script, 0, 1 << 60))
+            tally.same(text_of(folder, f"{name}.html") == page, True, "a page of the lecture", name)
+            tally.holds(f'href="{name}.html">{about}</a>' in index, "the lecture leads to", name)
+
+
 if __name__ == "__main__":
-    played.plays(__doc__, "sentences and marks", pages_tell, most=20, width=600, scripts=200, lines=24, planted=4)
+    played.plays(
+        __doc__, "sentences and marks", lectures, pages_tell, most=20, width=600, scripts=200, lines=24, planted=4
+    )

@@ -1,7 +1,7 @@
 #!/usr/bin/env python3
 """tests/typed.py
 
-Types each command line that README.md, docs/FAULTS.md and docs/SCRIPTS.md show, behind a `$` or of `./suites`, in
+Types each command line that README.md, docs/FAULTS.md, SCRIPTS.md and TEACH.md show, behind a `$` or of `./suites`, in
 blocks and in lines of text, at the top of the repository. Each has to end with status 0 (`may` with 1 where it shows
 a denial), and to print what is shown below it. Left out are those with a word to be filled in, as `./suites explain
 CODE`, those that take an hour or are the tests themselves, those that go on until they are stopped, and `--is-fresh`,
@@ -15,7 +15,7 @@ import played
 
 from pages import shown
 
-DOCUMENTS = ("README.md", "docs/FAULTS.md", "docs/SCRIPTS.md")
+DOCUMENTS = ("README.md", "docs/FAULTS.md", "docs/SCRIPTS.md", "docs/TEACH.md")
 COMMAND = re.compile(r"\$ (.*)|(?:\./suites |\.ci/run\b).*")
 # In a line of text a command alone, as `./suites trace`, names it.
 SPAN = re.compile(r"`(\./suites (?!\w+`)[^`]+)`")
@@ -23,7 +23,10 @@ SPAN = re.compile(r"`(\./suites (?!\w+`)[^`]+)`")
 FILLED_IN = re.compile(r"(?<![\w/])(?:[A-Z]{2,}|[A-Z])(?!\w)|\[|\.\.\.|< \.\.")
 # So many command lines at least are shown, so that a change of the form of documents is told.
 FEWEST = 12
-LEFT_OUT = ("./suites --prove", "./suites --test", "./suites --is-fresh", "./suites show --live", ".ci/run")
+LEFT_OUT = (
+    "./suites --prove", "./suites --test", "./suites --is-fresh", "./suites show --live", "./suites show --all",
+    ".ci/run",
+)
 # So many seconds a command may take.
 PATIENCE = "600"
 

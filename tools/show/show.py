@@ -152,6 +152,7 @@ def main() -> int:
     read.add_argument("--open", action="store_true")
     read.add_argument("--from", dest="first", type=int, default=0)
     read.add_argument("--to", dest="last", type=int, default=sys.maxsize)
+    read.add_argument("--all")
     read.add_argument("-h", "--help", action="store_true")
     read.add_argument("file", nargs="?")
     is_live = "--live" in sys.argv[1:]
@@ -168,6 +169,10 @@ def main() -> int:
         if given.file is not None or given.first or given.last != sys.maxsize:
             raise console.Bad("a page of a session has neither --from nor --to; a script is told by --script FILE")
         return live.main(given)
+    if given.all is not None:
+        from show import lecture
+
+        return lecture.write(given.all)
     if given.file is not None:
         raise console.Bad(f"a script is read from standard input: {read.prog} < {quoted.plain(given.file)}")
     script = trace.script()
