@@ -64,7 +64,7 @@ class Crate:
             return ""
         is_whole = not is_proved or nameless > 1 or not self.named
         ways = [(start, is_whole)] if start else []
-        for begin, self.is_whole in [*ways, (None, is_whole), (None, True)]:
+        for begin, self.is_whole in dict.fromkeys([*ways, (None, is_whole), (None, True)]):
             seen = self.seeded(begin)
             if not seen.status:
                 self.files = kit.listing(self.seed or "")
