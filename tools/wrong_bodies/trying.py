@@ -62,18 +62,16 @@ class Crate:
         if is_proved and len(self.edits) == 1 and not start:
             self.seed = None
             return ""
-        self.is_whole = not is_proved or nameless > 1 or not self.named
-        for begin in [start, None] if start else [None]:
-            seen = self.seeded(begin, self.is_whole)
-            if seen.status and not self.is_whole:
-                # (a name that fits nothing, say)
-                seen, self.is_whole = self.seeded(begin, True), True
+        is_whole = not is_proved or nameless > 1 or not self.named
+        ways = [(start, is_whole)] if start else []
+        for begin, self.is_whole in dict.fromkeys([*ways, (None, is_whole), (None, True)]):
+            seen = self.seeded(begin)
             if not seen.status:
                 self.files = kit.listing(self.seed or "")
                 return ""
         return f"the crate is not proved without an edit: {seen.text.rstrip().rpartition(chr(10))[2][:160]}"
 
-    def seeded(self, start: str | None, is_whole: bool) -> kit.Seen:
+    def seeded(self, start: str | None) -> kit.Seen:
         """Checks the crate as it stands, over what another check kept, and keeps what that proves."""
         seed = self.seed or ""
         shutil.rmtree(seed, ignore_errors=True)
@@ -84,7 +82,7 @@ class Crate:
             # (another command may write what this one copies)
             shutil.rmtree(seed, ignore_errors=True)
         os.makedirs(seed, exist_ok=True)
-        return self.copy.check(self.name, {}, [] if is_whole else self.named, seed)
+        return self.copy.check(self.name, {}, [] if self.is_whole else self.named, seed)
 
     def one(self, edit: standing.Edit, over: str | None) -> Verdict:
         """What comes of an edit over what this folder holds: by its function, and by the whole crate where that leaves
