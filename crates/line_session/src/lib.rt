@@ -7,9 +7,9 @@
 //! out and one that could not be kept are told, and the session goes on (`Came`).
 //!
 //! Carrying out the whole lines of a journal restores the desk (`carry_out_again`): `journal_restores` says so of every
-//! front of what was kept, `crash_restores` of what a crash leaves of the file, and `crash_keeps_all` that a crash
-//! leaves all lines before the one that is appended. The lines that are heard are those of a text that is read whole
-//! (`lines_are_cut`).
+//! front of what was kept, and `crash_restores` of what a crash leaves of the file. At each turn the file of the journal
+//! has each line that was kept (`HasAll`), and so a crash at any moment leaves all that was answered
+//! (`answers_outlast`). The lines that are heard are those of a text that is read whole (`lines_are_cut`).
 //!
 //! **The caller owes** nothing.
 //!
@@ -17,7 +17,7 @@
 //! `system`, `turn_log` (its turns, for proofs), `journal` (in a file), `replay` (a journal carried out again),
 //! `session_error`, `begun_line` (within the limit), `course`, `answering` (one line), `sessions`, `laws`.
 //! **Definitions** (`specs/`): `Turns`, `Lines`, `Answers`, `InTime`, `Begun`, `Steps`, `Memory`, `Restored`, `Journals`,
-//! `Replayed`, `Crashed`.
+//! `Replayed`, `Crashed`, `Moments`, `Standings`.
 #![tactic(auto)]
 
 mod answering;
@@ -38,7 +38,7 @@ mod turn_log;
 pub use begun_line::MAX_LINE;
 pub use desk::Desk;
 pub use journal::Journal;
-pub use laws::{crash_keeps_all, crash_restores, done_is_run, journal_restores, lines_are_cut};
+pub use laws::{answers_outlast, crash_keeps_all, crash_restores, done_is_run, journal_restores, lines_are_cut};
 pub use line_kind::LineKind;
 pub use memory::{MemoryTalk, MemoryTurn};
 pub use replay::{ReplayError, carry_out_again};

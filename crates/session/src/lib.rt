@@ -25,11 +25,12 @@ mod opened;
 mod refusal;
 mod words;
 
-ghost use Rattle.std.specs.Prelude.{◌≡◌, ◌⊎◌, IfOk};
+ghost use Rattle.std.specs.Prelude.{◌≡◌, ◌⊎◌, ℕ, Bool, List, IfOk, map};
 ghost use Rattle.byte_streams.specs.Endings.{done, no_stream};
 ghost use Rattle.line_session.specs.Answers.{manner_of};
 ghost use Rattle.line_session.specs.InTime.{AnswersAll, Speaks};
-ghost use Rattle.session.specs.Held.{Begins, Holds, HoldsAlone, IsFault, restored_text};
+ghost use Rattle.session.specs.Held.{Begins, Holds, HoldsAlone, IsFault, Obeys, name_in, restored_text};
+ghost use Rattle.session.specs.Words.{wanted_by};
 
 use byte_streams::{ByteIn, ByteOut, COMMAND_LINE, DONE, NO_STREAM, finish, lack_memory};
 use journal_file::{OneFile, Place, SystemPlace};
@@ -49,25 +50,42 @@ pub fn obey<R: Files<File = File>, I: ByteIn + Drop, O: ByteOut + Drop>(
     alloc: Global,
     words: &[&str],
     reader: I,
-    mut writer: O,
+    writer: O,
 ) -> u8 {
+    let mut desk = first_desk(alloc);
+    obey_at(alloc, &mut desk, &SystemPlace::new(rt), words, Streams { reader, writer })
+}
+
+/// Does what the words behind the command ask for on a desk, with the files of a place, and says the exit status.
+fn obey_at<D: Desk, F: OneFile + Drop, P: Place<F>, I: ByteIn + Drop, O: ByteOut + Drop>(
+    alloc: Global,
+    desk: &mut D,
+    place: &P,
+    words: &[&str],
+    streams: Streams<I, O>,
+) -> u8
+    ensures { Obeys D.kind D.text D.next D.Leaves (wanted_by (map (λ word. word.now) words.now)) (map (λ word. word.now) words.now)
+        (P.found place.now) result desk.old desk.new }
+{
     match read_words(words) {
         Some(wish) => {
-            let mut desk = first_desk(alloc);
-            let name = wish
-                .name
-                .and_then(|at| words.get(at).copied())
-                .unwrap_or("");
-            let streams = Streams { reader, writer };
-            begin(
-                alloc,
-                &mut desk,
-                &SystemPlace::new(rt),
-                Asked { name, wish },
-                streams,
-            )
+            let name = name_in(wish.name, words);
+            begin(alloc, desk, place, Asked { name, wish }, streams)
         }
-        None => finish(&mut writer, b"fault command line\n", COMMAND_LINE),
+        None => {
+            let mut writer = streams.writer;
+            finish(&mut writer, b"fault command line\n", COMMAND_LINE)
+        }
+    }
+}
+
+/// The name of the journal, or nothing where none is asked for.
+fn name_in<'a>(at: Option<usize>, words: &[&'a str]) -> &'a str
+    ensures { result.now ≡ name_in at (map (λ word. word.now) words.now) }
+{
+    match at {
+        Some(at) if at < words.len() => words[at],
+        _ => "",
     }
 }
 
@@ -128,7 +146,7 @@ fn hold<D: Desk, F: OneFile + Drop, I: ByteIn + Drop, O: ByteOut + Drop>(
     asked: Asked<'_>,
     streams: Streams<I, O>,
 ) -> u8
-    ensures { Holds D.kind D.text D.next D.Leaves asked.entry.wish.marks result desk.old (F.view file) desk.new }
+    ensures { Holds D.kind D.text D.next D.Leaves asked.entry.wish.marks asked.entry.wish.is_synced result desk.old (F.view file) desk.new }
 {
     let mut writer = streams.writer;
     let opened = match open_journal(alloc, &mut file, desk) {
@@ -147,6 +165,7 @@ fn hold<D: Desk, F: OneFile + Drop, I: ByteIn + Drop, O: ByteOut + Drop>(
 /// Holds the session, and says the exit status: that of the worst line, or that a stream failed.
 fn speak<D: Desk, T: Talk>(alloc: Global, desk: &mut D, talk: &mut T, marks: bool) -> u8
     ensures speaks { Speaks (manner_of D.kind D.text D.next marks (T.is_kept talk.old)) D.Leaves desk.old (T.said talk.old) (T.said talk.new) }
+    ensures tied { (wanted : Bool) (first : List ℕ) → T.Tied talk.old wanted first → T.Tied talk.new wanted first }
     ensures status { (result ≡ no_stream) ⊎ AnswersAll (manner_of D.kind D.text D.next marks (T.is_kept talk.old)) D.Leaves desk.old
         (T.said talk.old) (T.said talk.new) result desk.new }
 {

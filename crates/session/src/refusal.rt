@@ -1,5 +1,6 @@
 //! Why a journal is refused, and how that is told.
 
+ghost use Rattle.std.specs.Prelude.{◌≡◌};
 ghost use Rattle.session.specs.Held.{IsFault};
 
 use byte_streams::{ByteOut, FAULTY, NO_STREAM, ReadFailed, finish_line, lack_memory};
@@ -23,18 +24,30 @@ pub(crate) enum Refusal {
 }
 
 impl From<FileFailed> for Refusal {
+    ghost use Rattle.session.specs.declared.refusal.Refusal.TheVariants.{Failed};
+
+    ghost from_gives = { λ _ refusal. refusal ≡ Failed };
+
     fn from(_error: FileFailed) -> Refusal {
         Refusal::Failed
     }
 }
 
 impl From<ReadFailed> for Refusal {
+    ghost use Rattle.session.specs.declared.refusal.Refusal.TheVariants.{Failed};
+
+    ghost from_gives = { λ _ refusal. refusal ≡ Failed };
+
     fn from(_error: ReadFailed) -> Refusal {
         Refusal::Failed
     }
 }
 
 impl From<ReplayError> for Refusal {
+    ghost use Rattle.session.specs.declared.refusal.Refusal.TheVariants.{InUse};
+
+    ghost from_gives = { λ _ refusal. refusal ≡ InUse → ⊥ };
+
     fn from(error: ReplayError) -> Refusal {
         match error {
             ReplayError::Unread => Refusal::Failed,
