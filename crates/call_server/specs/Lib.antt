@@ -1,0 +1,3 @@
+pub mod Host
+pub mod Server
+pub mod Servers
